@@ -1,0 +1,5 @@
+pub mod Gate
+pub mod Term
+pub mod Flat
+pub mod Shape
+pub mod Parse
