@@ -1,0 +1,4 @@
+pub mod Refusal
+pub mod Entry
+pub mod Sheet
+pub mod Reading
