@@ -1,4 +1,5 @@
 pub mod Refusal
 pub mod Entry
 pub mod Sheet
+pub mod Entries
 pub mod Reading

@@ -8,6 +8,7 @@ use std::alloc::Global;
 use terms::Kind;
 use terms::Node;
 
+mod line;
 pub mod program;
 pub mod refusal;
 
@@ -18,7 +19,9 @@ impl Program {
     {
         let mut nodes = Vec::with_capacity(heap, 4096)?;
         let mut lines = Vec::with_capacity(heap, 4096)?;
-        nodes.push_reserved(Node { kind: Kind::Constant(false) });
+        nodes.push_reserved(Node {
+            kind: Kind::Constant(false),
+        });
         lines.push_reserved(1);
         Ok(Program { nodes, lines })
     }

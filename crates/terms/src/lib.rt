@@ -105,7 +105,11 @@ impl Wire {
     pub fn new(number: u16) -> Option<Wire>
         ensures { λ r. ⌜ Cases r (4096 ≤ number) (λ w. (number < 4096) × (w .number ≡ number)) ⌝ }
     {
-        if number < 4096 { Some(Wire { number }) } else { None }
+        if number < 4096 {
+            Some(Wire { number })
+        } else {
+            None
+        }
     }
 
     /// The wire's number.

@@ -42,14 +42,15 @@ returns-then-eq-11 c = matches-decides _ _ _ (c .eq-11 .ensures) .0 (c .if-eq-11
 
 pub returns : need.returns
 returns c = λ g. elim g as (λ x. c .args .bytes .now ≡ name x → ⊥) [
-    H ↦ λ e. both-ways _ (c .if-eq .left) (matches-decides _ _ _ (c .eq .ensures) .1 e)
-    | X ↦ λ e. both-ways _ (c .if-eq-2 .left) (matches-decides _ _ _ (c .eq-2 .ensures) .1 e)
-    | Z ↦ λ e. both-ways _ (c .if-eq-3 .left) (matches-decides _ _ _ (c .eq-3 .ensures) .1 e)
-    | S ↦ λ e. both-ways _ (c .if-eq-4 .left) (matches-decides _ _ _ (c .eq-4 .ensures) .1 e)
-    | Sdg ↦ λ e. both-ways _ (c .if-eq-5 .left) (matches-decides _ _ _ (c .eq-5 .ensures) .1 e)
-    | T ↦ λ e. both-ways _ (c .if-eq-6 .left) (matches-decides _ _ _ (c .eq-6 .ensures) .1 e)
-    | Tdg ↦ λ e. both-ways _ (c .if-eq-7 .left) (matches-decides _ _ _ (c .eq-7 .ensures) .1 e)
-    | Cx ↦ λ e. both-ways _ (c .if-eq-8 .left) (matches-decides _ _ _ (c .eq-8 .ensures) .1 e)
-    | Cz ↦ λ e. both-ways _ (c .if-eq-9 .left) (matches-decides _ _ _ (c .eq-9 .ensures) .1 e)
-    | Swap ↦ λ e. both-ways _ (c .if-eq-10 .left) (matches-decides _ _ _ (c .eq-10 .ensures) .1 e)
-    | Ccx ↦ λ e. both-ways _ (c .if-eq-11 .left) (matches-decides _ _ _ (c .eq-11 .ensures) .1 e) ]
+  | H ↦ λ e. both-ways _ (c .if-eq .left) (matches-decides _ _ _ (c .eq .ensures) .1 e)
+  | X ↦ λ e. both-ways _ (c .if-eq-2 .left) (matches-decides _ _ _ (c .eq-2 .ensures) .1 e)
+  | Z ↦ λ e. both-ways _ (c .if-eq-3 .left) (matches-decides _ _ _ (c .eq-3 .ensures) .1 e)
+  | S ↦ λ e. both-ways _ (c .if-eq-4 .left) (matches-decides _ _ _ (c .eq-4 .ensures) .1 e)
+  | Sdg ↦ λ e. both-ways _ (c .if-eq-5 .left) (matches-decides _ _ _ (c .eq-5 .ensures) .1 e)
+  | T ↦ λ e. both-ways _ (c .if-eq-6 .left) (matches-decides _ _ _ (c .eq-6 .ensures) .1 e)
+  | Tdg ↦ λ e. both-ways _ (c .if-eq-7 .left) (matches-decides _ _ _ (c .eq-7 .ensures) .1 e)
+  | Cx ↦ λ e. both-ways _ (c .if-eq-8 .left) (matches-decides _ _ _ (c .eq-8 .ensures) .1 e)
+  | Cz ↦ λ e. both-ways _ (c .if-eq-9 .left) (matches-decides _ _ _ (c .eq-9 .ensures) .1 e)
+  | Swap ↦ λ e. both-ways _ (c .if-eq-10 .left) (matches-decides _ _ _ (c .eq-10 .ensures) .1 e)
+  | Ccx ↦ λ e. both-ways _ (c .if-eq-11 .left) (matches-decides _ _ _ (c .eq-11 .ensures) .1 e)
+]
