@@ -3,3 +3,4 @@ pub mod Entry
 pub mod Sheet
 pub mod Entries
 pub mod Reading
+pub mod Tables

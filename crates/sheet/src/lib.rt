@@ -11,6 +11,7 @@ use terms::Node;
 mod line;
 pub mod program;
 pub mod refusal;
+mod table;
 
 impl Program {
     /// Reserves the place of a program; at first it holds the program of the constant 0.
