@@ -1,3 +1,4 @@
 pub mod Times
 pub mod Writing
 pub mod Stacking
+pub mod Marking

@@ -4,3 +4,4 @@ pub mod Sheet
 pub mod Entries
 pub mod Reading
 pub mod Tables
+pub mod Uses

@@ -12,6 +12,7 @@ mod line;
 pub mod program;
 pub mod refusal;
 mod table;
+mod uses;
 
 impl Program {
     /// Reserves the place of a program; at first it holds the program of the constant 0.
