@@ -1,4 +1,14 @@
 pub mod Times
+pub mod Numerals
+pub mod Uncut
+pub mod Cutting
+pub mod Positive
+pub mod Collecting
+pub mod Shaping
+pub mod Parsing
+pub mod Unbroken
 pub mod Writing
 pub mod Stacking
 pub mod Marking
+pub mod Beginning
+pub mod Filled

@@ -43,7 +43,8 @@ starts es pending nodes lines p g h a b d =
       left = w .lines ++ [];
       writes = subst (λ (ps : List ℕ). Write es ps (part (w .term) none) (w .lines ++ [])) (sym (ap reverse a)) (more-parts (w .writes) no-parts);
       nodes-whole = ap (λ ns. ns ++ (flat (w .term) ++ [])) b ∙ append-nil (flat (w .term));
-      lines-whole = ap (λ ls. ls ++ (w .lines ++ [])) d ∙ append-nil (w .lines) }
+      lines-whole = ap (λ ls. ls ++ (w .lines ++ [])) d ∙ append-nil (w .lines);
+    }
 
 write-append : {es : List Entry} {ps : List ℕ} {ts : Terms} {ls : List ℕ} → Write es ps ts ls → (qs : List ℕ) (us : Terms) (ms : List ℕ) → Write es qs us ms → Write es (ps ++ qs) (join ts us) (ls ++ ms)
 write-append no-parts qs us ms v = v
@@ -91,18 +92,19 @@ steps es stack rest after n nodes nodes' lines lines' u t a b d =
     let us : Terms = t .terms-after in
     let r : reverse after ≡ t .below ++ reverse rest = ap reverse a ∙ reverse-append rest (reverse (t .below)) ∙ ap (λ ys. ys ++ reverse rest) (reverse-reverse (t .below)) in
     let f : flats (u .terms) ≡ nodeOf (kindOf x) ∷ flats (join (parts x) us) =
-          ap flats (t .terms-are) ∙ ap (λ xs. xs ++ flats us) (flat-node x) ∙ ap (λ xs. nodeOf (kindOf x) ∷ xs) (sym (flats-join (parts x) us)) in
+    ap flats (t .terms-are) ∙ ap (λ xs. xs ++ flats us) (flat-node x) ∙ ap (λ xs. nodeOf (kindOf x) ∷ xs) (sym (flats-join (parts x) us)) in
     record {
       whole = u .whole;
       terms = join (parts x) us;
       left = t .lines ++ t .left-after;
       writes = subst (λ (ps : List ℕ). Write es ps (join (parts x) us) (t .lines ++ t .left-after)) (sym r) (write-append (t .writes) (reverse rest) us (t .left-after) (t .writes-after));
       nodes-whole =
-        ap (λ xs. xs ++ flats (join (parts x) us)) b ∙ append-assoc nodes (nodeOf (kindOf x) ∷ []) (flats (join (parts x) us))
-        ∙ ap (λ xs. nodes ++ xs) (sym f) ∙ u .nodes-whole;
+          ap (λ xs. xs ++ flats (join (parts x) us)) b ∙ append-assoc nodes (nodeOf (kindOf x) ∷ []) (flats (join (parts x) us))
+          ∙ ap (λ xs. nodes ++ xs) (sym f) ∙ u .nodes-whole;
       lines-whole =
-        ap (λ xs. xs ++ (t .lines ++ t .left-after)) d ∙ append-assoc lines (n ∷ []) (t .lines ++ t .left-after)
-        ∙ ap (λ xs. lines ++ xs) (sym (t .left-is)) ∙ u .lines-whole }
+          ap (λ xs. xs ++ (t .lines ++ t .left-after)) d ∙ append-assoc lines (n ∷ []) (t .lines ++ t .left-after)
+          ∙ ap (λ xs. lines ++ xs) (sym (t .left-is)) ∙ u .lines-whole;
+    }
 
 -- With no line pending the whole is there.
 write-none : {es : List Entry} {ps : List ℕ} {ts : Terms} {ls : List ℕ} → Write es ps ts ls → ps ≡ [] → (ts ≡ none) × (ls ≡ [])
@@ -116,7 +118,8 @@ ended es stack nodes lines e u =
     record {
       term = u .whole .term;
       writes = subst (λ (xs : List ℕ). Writes es (length es) (u .whole .term) xs) (sym l) (u .whole .writes);
-      nodes-are = sym (append-nil nodes) ∙ ap (λ ts. nodes ++ flats ts) (sym (n .0)) ∙ u .nodes-whole }
+      nodes-are = sym (append-nil nodes) ∙ ap (λ ts. nodes ++ flats ts) (sym (n .0)) ∙ u .nodes-whole;
+    }
 
 -- There is room for what is still to come.
 mutual
@@ -165,12 +168,13 @@ turn xs stack rest n nodes lines p e u =
       high = omega (arith, r .1);
       room = omega arith;
       stack-room = λ x d.
-        let q : (kindOf (t .term), t .below) ≡ entry x = line-entry (t .says) xs x refl ∙ ap entry (sym d) in
-        let k : length (t .below) ≡ length (listed (x .parts)) = ap (λ (y : Entry). length (y .1)) q in
-        omega (arith, length-take-le (x .parts .count) (x .parts .list) (omega arith), length-reverse rest);
+          let q : (kindOf (t .term), t .below) ≡ entry x = line-entry (t .says) xs x refl ∙ ap entry (sym d) in
+          let k : length (t .below) ≡ length (listed (x .parts)) = ap (λ (y : Entry). length (y .1)) q in
+          omega (arith, length-take-le (x .parts .count) (x .parts .list) (omega arith), length-reverse rest);
       next = λ x d after nodes' lines' f g h.
-        let q : (kindOf (t .term), t .below) ≡ entry x = line-entry (t .says) xs x refl ∙ ap entry (sym d) in
-        steps es stack rest after n nodes nodes' lines lines' u t
+          let q : (kindOf (t .term), t .below) ≡ entry x = line-entry (t .says) xs x refl ∙ ap entry (sym d) in
+          steps es stack rest after n nodes nodes' lines lines' u t
           (f ∙ ap (λ (y : Entry). rest ++ reverse (y .1)) (sym q))
           (g ∙ ap (λ (y : Entry). nodes ++ (nodeOf (y .0) ∷ [])) (sym q))
-          h }
+          h;
+    }

@@ -1,10 +1,10 @@
 -- How often numbers stand in lists, and sums over the numbers of a range.
-use mathlib.Core.Path.{_≡_, refl, sym, _∙_, ap}
+use mathlib.Core.Path.{_≡_, refl, sym, _∙_, ap, subst}
 use mathlib.Core.Bool.{cond}
 use mathlib.Core.Logic.{_⊎_, inl, inr}
 use mathlib.Core.List.{List, [], _∷_, _++_}
 use Prim.Native.Nat.{ℕ, zero, suc, _+_, _*_, _≤_, _<_}
-use native.Mathlib.Nat.{mul-add, mul-zero, zero-mul, mul-le-mul-left}
+use native.Mathlib.Nat.{mul-add, mul-zero, zero-add, zero-mul, mul-le-mul-left}
 use native.Mathlib.Omega.{arith}
 use lib.Dec.{eqb}
 use lib.ListN.{length}
@@ -25,6 +25,15 @@ mark-other k x h = rw (ne-eqb k x h) refl
 pub times-append : (n : ℕ) (xs ys : List ℕ) → times n (xs ++ ys) ≡ times n xs + times n ys
 times-append n [] ys = omega arith
 times-append n (x ∷ xs) ys = omega (arith, times-append n xs ys)
+
+pub times-here : (n : ℕ) (xs : List ℕ) → times n (n ∷ xs) ≡ 1 + times n xs
+times-here n xs = rw (eq-eqb n n refl) refl
+
+pub times-other : (n x : ℕ) (xs : List ℕ) → (n ≡ x → ⊥) → times n (x ∷ xs) ≡ times n xs
+times-other n x xs h = rw (ne-eqb n x h) (zero-add (times n xs))
+
+pub times-none : (n x : ℕ) (xs : List ℕ) → times n (x ∷ xs) ≡ 0 → n ≡ x → ⊥
+times-none n x xs h e = let k : times n (x ∷ xs) ≡ 1 + times n xs = subst (λ y. times n (y ∷ xs) ≡ 1 + times n xs) e (times-here n xs) in omega arith
 
 -- The sum of f over the n numbers from s on, and over the numbers of a list.
 abbrev pub span : ℕ → ℕ → (ℕ → ℕ) → ℕ
@@ -63,15 +72,16 @@ over-ones (x ∷ xs) = omega (arith, over-ones xs)
 pick : (c : ℕ → ℕ) (x s n : ℕ) → s ≤ x → x < s + n → span s n (λ k. c k * mark k x) ≡ c x
 pick c x s zero h l = absurd (omega arith)
 pick c x s (suc n) h l = elim (cases-eq s x) [
-    inl e ↦
+  | inl e ↦
       let a : c s * mark s x ≡ c s * 1 = ap (λ m. c s * m) (mark-same s x e) in
       let b : span (suc s) n (λ k. c k * mark k x) ≡ 0 =
-            span-none (suc s) n _ (λ k g. ap (λ m. c k * m) (mark-other k x (λ d. omega arith)) ∙ mul-zero (c k)) in
+      span-none (suc s) n _ (λ k g. ap (λ m. c k * m) (mark-other k x (λ d. omega arith)) ∙ mul-zero (c k)) in
       let d : c s ≡ c x = ap c e in
       omega arith
-    | inr e ↦
+  | inr e ↦
       let a : c s * mark s x ≡ c s * 0 = ap (λ m. c s * m) (mark-other s x e) in
-      omega (arith, pick c x (suc s) n (omega arith) (omega arith)) ]
+      omega (arith, pick c x (suc s) n (omega arith) (omega arith))
+]
 
 -- A sum over a list within a range is the sum over the range by how often each number stands in the list.
 exchange : (c : ℕ → ℕ) (s n : ℕ) (xs : List ℕ) → Each (λ x. (s ≤ x) × (x < s + n)) xs → over c xs ≡ span s n (λ k. c k * times k xs)

@@ -63,7 +63,7 @@ parts-sum m s (e ∷ es) =
     let b = span-same (suc s) (length es) (λ k. times m (parts-from s (e ∷ es) k)) (λ k. times m (parts-from (suc s) es k)) (λ k l. rw (ne-eqb k s (λ d. omega arith)) refl) in
     omega (arith, parts-sum m (suc s) es, times-append m (e .1) (used es))
 
-none-earlier : (m n : ℕ) (ps : List ℕ) → n ≤ m → Each (λ p. p < n) ps → times m ps ≡ 0
+pub none-earlier : (m n : ℕ) (ps : List ℕ) → n ≤ m → Each (λ p. p < n) ps → times m ps ≡ 0
 none-earlier m n [] l h = refl
 none-earlier m n (p ∷ ps) l h = omega (arith, mark-other m p (λ d. omega (arith, h .0)), none-earlier m n ps l (h .1))
 
@@ -71,8 +71,9 @@ parts-earlier : (es : List Entry) (s : ℕ) → Earlier s es → (m k : ℕ) →
 unfolding parts-from
 parts-earlier [] s h m k l = refl
 parts-earlier (e ∷ es) s h m k l = elim (cases-eq k s) [
-    inl d ↦ rw (eq-eqb k s d) (none-earlier m s (e .1) (omega arith) (h .0))
-    | inr d ↦ rw (ne-eqb k s d) (parts-earlier es (suc s) (h .1) m k l) ]
+  | inl d ↦ rw (eq-eqb k s d) (none-earlier m s (e .1) (omega arith) (h .0))
+  | inr d ↦ rw (ne-eqb k s d) (parts-earlier es (suc s) (h .1) m k l)
+]
 
 over-append : (f : ℕ → ℕ) (xs ys : List ℕ) → over f (xs ++ ys) ≡ over f xs + over f ys
 over-append f [] ys = omega arith
@@ -115,20 +116,23 @@ stands-last es t ls p w m h =
     let a = over-none (uses es m) (length es) ls (writes-range w) (λ k l. parts-earlier es 1 (p .earlier) m k (omega arith)) in
     let b = writes-times w m in
     elim (cases-eq m (length es)) [
-      inl e ↦ omega (arith, mark-same m (length es) e)
-      | inr e ↦ omega (arith, mark-other m (length es) e) ]
+      | inl e ↦ omega (arith, mark-same m (length es) e)
+      | inr e ↦ omega (arith, mark-other m (length es) e)
+    ]
 
 -- From the last line down, each line stands at most once in the whole term.
 stands-once : (d : ℕ) (es : List Entry) (t : Term) (ls : List ℕ) → Placed es → Writes es (length es) t ls → (m : ℕ) → length es ≤ m + d → times m ls ≤ 1
 stands-once zero es t ls p w m h = stands-last es t ls p w m (omega arith)
 stands-once (suc d) es t ls p w m h = elim (cases-lt m (length es)) [
-    inr l ↦ stands-last es t ls p w m l
-    | inl l ↦
+  | inr l ↦ stands-last es t ls p w m l
+  | inl l ↦
       let a = over-le (uses es m) 1 (length es) ls (writes-range w) (λ k. elim (cases-lt m k) [
-            inl g ↦ inr (stands-once d es t ls p w k (omega arith))
-            | inr g ↦ inl (parts-earlier es 1 (p .earlier) m k g) ]) in
+        | inl g ↦ inr (stands-once d es t ls p w k (omega arith))
+        | inr g ↦ inl (parts-earlier es 1 (p .earlier) m k g)
+      ]) in
       let b = parts-sum m 1 es in
-      omega (arith, writes-times w m, mark-other m (length es) (λ e. omega arith), p .once m) ]
+      omega (arith, writes-times w m, mark-other m (length es) (λ e. omega arith), p .once m)
+]
 
 pub writes-once : (es : List Entry) (t : Term) (ls : List ℕ) → Placed es → Writes es (length es) t ls → (m : ℕ) → times m ls ≤ 1
 writes-once es t ls p w m = stands-once (length es) es t ls p w m (omega arith)

@@ -1,7 +1,11 @@
 pub mod Refusal
 pub mod Entry
 pub mod Sheet
+pub mod Split
+pub mod Numeral
+pub mod Fields
 pub mod Entries
 pub mod Reading
 pub mod Tables
 pub mod Uses
+pub mod Lines

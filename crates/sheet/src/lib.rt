@@ -1,16 +1,25 @@
 //! Reading a program sheet.
 ghost use mathlib.Core.Path.{_≡_};
 ghost use Rattle.std.specs.Vec.{made};
-ghost use Rattle.sheet.specs.Reading.{Holds-zero};
+ghost use Rattle.sheet.specs.Reading.{Holds-zero, Reads};
+use lines::read_lines;
 use program::Program;
+use refusal::Refusal;
 use std::alloc::AllocError;
 use std::alloc::Global;
+use storage::ReadStorage;
+use table::fill_table;
 use terms::Kind;
 use terms::Node;
 
 mod line;
+mod lines;
+mod parse;
 pub mod program;
+mod reader;
 pub mod refusal;
+mod split;
+pub mod storage;
 mod table;
 mod uses;
 
@@ -41,4 +50,32 @@ impl Program {
     {
         &self.lines
     }
+}
+
+impl ReadStorage {
+    /// Reserves the memory that reading a sheet of any size works in.
+    pub fn new(heap: Global) -> Result<ReadStorage, AllocError> {
+        let sheet_lines = Vec::with_capacity(heap, 4096)?;
+        let used = Vec::with_capacity(heap, 4097)?;
+        let pending = Vec::with_capacity(heap, 4096)?;
+        Ok(ReadStorage {
+            sheet_lines,
+            used,
+            pending,
+        })
+    }
+}
+
+/// Reads a program sheet into `place`. A refusal leaves the place as it was.
+pub fn read(sheet: &[u8], storage: &mut ReadStorage, place: &mut Program) -> Result<(), Refusal>
+    ensures { λ r. ⌜ Reads (now (sheet .entry)) r (now (place .entry)) (now (place .exit)) ⌝ }
+{
+    read_lines(sheet, &mut storage.sheet_lines, &mut storage.used)?;
+    fill_table(
+        &storage.sheet_lines,
+        &mut storage.pending,
+        &mut place.nodes,
+        &mut place.lines,
+    );
+    Ok(())
 }

@@ -1,6 +1,7 @@
 //! Why a program sheet is refused, and where.
 ghost use mathlib.Core.Path.{_≡_};
 ghost use Rattle.sheet.specs.Refusal.{number};
+use std::fmt;
 
 /// The rule that a sheet breaks.
 #[derive(Clone, Copy, PartialEq, Eq, Debug)]
@@ -42,5 +43,30 @@ impl Rule {
             Rule::Shut => 16,
             Rule::Repeated => 17,
         }
+    }
+}
+
+impl Rule {
+    /// What is wrong with a sheet that breaks the rule.
+    fn reason(self) -> &'static str {
+        match self {
+            Rule::Form => "the line does not follow the form of a sheet",
+            Rule::Size =>
+                "the sheet is empty, has more than 65536 bytes, or has more than 4096 line ends",
+            Rule::Part =>
+                "a part is not an earlier line or is already used, or no line uses this one",
+            Rule::Unbound => "the variable has no binder, or a place outside its binder's pattern",
+            Rule::Misused => "a variable of this binder is used never or more than once",
+            Rule::Shut => "a linear variable or a wire stands in a bang",
+            Rule::Repeated => "the wire stands on an earlier line too",
+        }
+    }
+}
+
+pub impl fmt::Display for Refusal as RefusalDisplay {
+    fn fmt<W: fmt::Write>(&self, f: &mut fmt::Formatter<W>) -> fmt::Result {
+        let line = self.line;
+        let reason = self.rule.reason();
+        write!(f, "line {line}: {reason}")
     }
 }

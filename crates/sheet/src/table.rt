@@ -26,7 +26,12 @@ fn push_all(numbers: Numbers, stack: &mut Vec<u16>)
 
 /// Puts the nodes of the last line's term into `nodes`, in the order of their numbers, and their lines into `lines`.
 /// `pending` is a stack of lines whose terms are still to come.
-pub fn fill_table(sheet_lines: &Vec<Line>, pending: &mut Vec<u16>, nodes: &mut Vec<Node>, lines: &mut Vec<u16>)
+pub fn fill_table(
+    sheet_lines: &Vec<Line>,
+    pending: &mut Vec<u16>,
+    nodes: &mut Vec<Node>,
+    lines: &mut Vec<u16>,
+)
     requires some { ⌜ 0 < vec-len (now «sheet_lines») ⌝ }
     requires few { ⌜ vec-len (now «sheet_lines») ≤ 4096 ⌝ }
     requires proper { ⌜ Each Proper (entries (vec-items (now «sheet_lines»))) ⌝ }

@@ -16,12 +16,13 @@ loop-line-holds c =
     let m : length (entries xs) ≡ length xs = length-map xs entry in
     let k : length (entries xs) ≡ c .len .result = omega (arith, c .len .ensures) in
     let p : vec-items (c .push-reserved .last .self) ≡ length (entries xs) ∷ [] =
-          c .push-reserved .ensures .items ∙ ap (λ ys. ys ++ (c .len .result ∷ [])) (c .clear .ensures .items) ∙ ap (λ n. n ∷ []) (sym k) in
-    (starts (entries xs) _ _ _ (c .pre .proper) (c .pre .placed) (omega (arith, c .pre .some)) p (c .clear-2 .ensures .items) (c .clear-3 .ensures .items),
-     c .clear-2 .ensures .len ∙ sym (c .clear-3 .ensures .len),
-     omega (arith, c .push-reserved .ensures .capacity, c .clear .ensures .capacity, c .pre .pending-room),
-     omega (arith, c .clear-2 .ensures .capacity, c .pre .node-room),
-     omega (arith, c .clear-3 .ensures .capacity, c .pre .line-room))
+    c .push-reserved .ensures .items ∙ ap (λ ys. ys ++ (c .len .result ∷ [])) (c .clear .ensures .items) ∙ ap (λ n. n ∷ []) (sym k) in (
+      starts (entries xs) _ _ _ (c .pre .proper) (c .pre .placed) (omega (arith, c .pre .some)) p (c .clear-2 .ensures .items) (c .clear-3 .ensures .items),
+      c .clear-2 .ensures .len ∙ sym (c .clear-3 .ensures .len),
+      omega (arith, c .push-reserved .ensures .capacity, c .clear .ensures .capacity, c .pre .pending-room),
+      omega (arith, c .clear-2 .ensures .capacity, c .pre .node-room),
+      omega (arith, c .clear-3 .ensures .capacity, c .pre .line-room),
+    )
 
 -- What the line on top of the stack says.
 taken : (c : need.In-Some) → Turn (vec-items (c .args .sheet-lines .now)) (vec-items (c .pop .last .self)) (c .in-Some .line) (vec-items (c .loop-line .nodes)) (vec-items (c .loop-line .lines))
@@ -51,12 +52,13 @@ loop-line-less c =
     omega (arith, taken (need.at·loop-line-less c .In-Some) .room, c .args .sheet-lines .now .ok .0, c .pre .few, c .loop-line .lines .ok .0, c .push-reserved-in-Some-2 .ensures .len)
 
 pub loop-line-again : need.loop-line-again
-loop-line-again c =
-    (taken (need.at·loop-line-again c .In-Some) .next (c .index .result .now) (c .index .ensures) _ _ _ (c .push-all .ensures .items) (c .push-reserved-in-Some .ensures .items) (c .push-reserved-in-Some-2 .ensures .items),
-     omega (arith, c .push-reserved-in-Some .ensures .len, c .push-reserved-in-Some-2 .ensures .len, c .loop-line .inv .1),
-     omega (arith, c .push-all .ensures .capacity, c .in-Some .ensures tt .capacity, c .loop-line .inv .2),
-     omega (arith, c .push-reserved-in-Some .ensures .capacity, c .loop-line .inv .3),
-     omega (arith, c .push-reserved-in-Some-2 .ensures .capacity, c .loop-line .inv .4))
+loop-line-again c = (
+  taken (need.at·loop-line-again c .In-Some) .next (c .index .result .now) (c .index .ensures) _ _ _ (c .push-all .ensures .items) (c .push-reserved-in-Some .ensures .items) (c .push-reserved-in-Some-2 .ensures .items),
+  omega (arith, c .push-reserved-in-Some .ensures .len, c .push-reserved-in-Some-2 .ensures .len, c .loop-line .inv .1),
+  omega (arith, c .push-all .ensures .capacity, c .in-Some .ensures tt .capacity, c .loop-line .inv .2),
+  omega (arith, c .push-reserved-in-Some .ensures .capacity, c .loop-line .inv .3),
+  omega (arith, c .push-reserved-in-Some-2 .ensures .capacity, c .loop-line .inv .4),
+)
 
 pub returns : need.returns
 returns c =
@@ -65,5 +67,5 @@ returns c =
       table = ended (entries (vec-items (c .args .sheet-lines .now))) (vec-items (c .loop-line .pending)) (vec-items (c .loop-line .nodes)) (vec-items (c .loop-line .lines)) n (c .loop-line .inv .0);
       pending-room = omega (arith, c .in-rest .ensures tt .capacity, c .loop-line .inv .2);
       node-room = c .loop-line .inv .3;
-      line-room = c .loop-line .inv .4 }
-
+      line-room = c .loop-line .inv .4;
+    }

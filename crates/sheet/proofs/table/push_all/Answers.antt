@@ -21,10 +21,11 @@ loop-left-again c =
     let xs : List ℕ = listed (c .args .numbers) in
     let k : ℕ = c .loop-left .left in
     let n = length-take-le (c .args .numbers .count) (c .args .numbers .list) (omega arith) in
-    let g : getD xs (k - 1) 0 ≡ getD (c .args .numbers .list) (k - 1) 0 = getD-take (c .args .numbers .count) (c .args .numbers .list) (k - 1) 0 (omega (arith, c .loop-left .inv .0)) in
-    (omega (arith, c .loop-left .inv .0),
-     c .push-reserved .ensures .items ∙ ap (λ ys. ys ++ (getD (c .args .numbers .list) (k - 1) 0 ∷ [])) (c .loop-left .inv .1)
-     ∙ ap (λ y. (vec-items (c .args .stack .now) ++ reverse (drop k xs)) ++ (y ∷ [])) (sym g)
-     ∙ stack-more (vec-items (c .args .stack .now)) xs k (omega arith) (omega (arith, c .loop-left .inv .0)),
-     c .push-reserved .ensures .capacity ∙ c .loop-left .inv .2,
-     omega (arith, c .push-reserved .ensures .len, c .loop-left .inv .3))
+    let g : getD xs (k - 1) 0 ≡ getD (c .args .numbers .list) (k - 1) 0 = getD-take (c .args .numbers .count) (c .args .numbers .list) (k - 1) 0 (omega (arith, c .loop-left .inv .0)) in (
+      omega (arith, c .loop-left .inv .0),
+      c .push-reserved .ensures .items ∙ ap (λ ys. ys ++ (getD (c .args .numbers .list) (k - 1) 0 ∷ [])) (c .loop-left .inv .1)
+          ∙ ap (λ y. (vec-items (c .args .stack .now) ++ reverse (drop k xs)) ++ (y ∷ [])) (sym g)
+          ∙ stack-more (vec-items (c .args .stack .now)) xs k (omega arith) (omega (arith, c .loop-left .inv .0)),
+      c .push-reserved .ensures .capacity ∙ c .loop-left .inv .2,
+      omega (arith, c .push-reserved .ensures .len, c .loop-left .inv .3),
+    )

@@ -44,9 +44,10 @@ loop-i-again c = λ ws m o.
     let h = c .loop-i .inv ws m o in
     let z = unmarked-none (c .loop-i .used) (ws ++ take i xs) p (h .1) (omega arith) (c .if-used-part .left) in
     let e : take (i + 1) xs ≡ take i xs ++ (p ∷ []) = take-more xs i 0 (omega (arith, long (c .args .parts))) ∙ ap (λ q. take i xs ++ (q ∷ [])) (read (c .args .parts) i (omega arith)) in
-    let a : ws ++ take (i + 1) xs ≡ (ws ++ take i xs) ++ (p ∷ []) = ap (λ ys. ws ++ ys) e ∙ sym (append-assoc ws (take i xs) (p ∷ [])) in
-    (subst (λ (ys : List ℕ). Fits (length (c .args .used .now)) ws ys) (sym e) (fits-more _ ws (take i xs) p (h .0) (omega (arith, c .if-part-used .left, c .loop-i .kept .used)) z),
-     subst (λ (ys : List ℕ). Marks (set (c .loop-i .used) p true) ys) (sym a) (marks-more (c .loop-i .used) (ws ++ take i xs) p (h .1)))
+    let a : ws ++ take (i + 1) xs ≡ (ws ++ take i xs) ++ (p ∷ []) = ap (λ ys. ws ++ ys) e ∙ sym (append-assoc ws (take i xs) (p ∷ [])) in (
+      subst (λ (ys : List ℕ). Fits (length (c .args .used .now)) ws ys) (sym e) (fits-more _ ws (take i xs) p (h .0) (omega (arith, c .if-part-used .left, c .loop-i .kept .used)) z),
+      subst (λ (ys : List ℕ). Marks (set (c .loop-i .used) p true) ys) (sym a) (marks-more (c .loop-i .used) (ws ++ take i xs) p (h .1)),
+    )
 
 pub returns : need.returns
 returns c = λ ws m o. subst (λ (ys : List ℕ). Fits (length (c .args .used .now)) ws ys × Marks (c .loop-i .used) (ws ++ ys)) (take-all (c .loop-i .i) (listed (c .args .parts)) (omega (arith, long (c .args .parts), c .loop-i-test .left))) (c .loop-i .inv ws m o)

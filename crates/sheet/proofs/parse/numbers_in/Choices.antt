@@ -1,0 +1,11 @@
+use mathlib.Core.Path.{_≡_}
+use mathlib.Core.List.{List, []}
+use Prim.Native.Nat.{ℕ}
+use lib.ListN.{length, take}
+use Rattle.std.specs.declared.option.Option.{Option}
+use Rattle.sheet.specs.Fields.{Collects}
+use Rattle.sheet.proofs.parse.numbers_in.Given as given
+
+-- Whatever the rest gives after the numbers so far, the whole gives.
+abbrev pub Inv-loop-i : given.InvT-loop-i
+Inv-loop-i l = (length (l .list) ≡ 8) × ((r : Option (List ℕ)) → Collects (take (l .i) (l .list)) (l .rest) r → Collects [] (l .bytes) r)
