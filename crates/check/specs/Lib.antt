@@ -1,0 +1,4 @@
+pub mod Faults
+pub mod Verdict
+pub mod Sites
+pub mod Loops
