@@ -47,12 +47,13 @@ pub one-more : (xs : List Node) (i : ℕ) (d : Node) (counts : List ℕ) (m : �
 one-more xs i d counts m l n e h k g =
     let t : tally k (take (i + 1) xs) ≡ tally k (take i xs) + tally k (getD xs i d ∷ []) = ap (tally k) (take-more xs i d l) ∙ tally-append k (take i xs) (getD xs i d ∷ []) in
     elim (cases-eq k m) [
-      inl q ↦
-        let a : getD (set counts m (getD counts m 0 + 1)) k 0 ≡ getD counts m 0 + 1 = ap (λ j. getD (set counts m (getD counts m 0 + 1)) j 0) q ∙ getD-set-same counts m (getD counts m 0 + 1) 0 (omega arith) in
-        let b = same k (index (getD xs i d .kind)) (q ∙ e) in
-        let c : getD counts k 0 ≡ getD counts m 0 = ap (λ j. getD counts j 0) q in
-        omega (arith, h k g)
+      | inl q ↦
+          let a : getD (set counts m (getD counts m 0 + 1)) k 0 ≡ getD counts m 0 + 1 = ap (λ j. getD (set counts m (getD counts m 0 + 1)) j 0) q ∙ getD-set-same counts m (getD counts m 0 + 1) 0 (omega arith) in
+          let b = same k (index (getD xs i d .kind)) (q ∙ e) in
+          let c : getD counts k 0 ≡ getD counts m 0 = ap (λ j. getD counts j 0) q in
+          omega (arith, h k g)
       | inr q ↦
-        let a = getD-set-other counts m k (getD counts m 0 + 1) 0 q in
-        let b = other k (index (getD xs i d .kind)) (λ r. q (r ∙ sym e)) in
-        omega (arith, h k g) ]
+          let a = getD-set-other counts m k (getD counts m 0 + 1) 0 q in
+          let b = other k (index (getD xs i d .kind)) (λ r. q (r ∙ sym e)) in
+          omega (arith, h k g)
+    ]

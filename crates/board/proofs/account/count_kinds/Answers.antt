@@ -14,11 +14,13 @@ add-counts c =
     omega (arith, c .loop-node .inv .1 (c .index .result) q, tally-few (c .index .result) (take i (c .args .nodes .now)), length-take-le i (c .args .nodes .now) (omega arith), c .loop-node-test .taken, c .args .nodes)
 
 pub loop-node-again : need.loop-node-again
-loop-node-again c =
-    (length-set (c .loop-node .counts) _ _ ∙ c .loop-node .inv .0,
-     one-more (c .args .nodes .now) (c .loop-node .node-index) _ (c .loop-node .counts) (c .index .result) (omega arith) (c .loop-node .inv .0) (c .index .ensures) (c .loop-node .inv .1))
+loop-node-again c = (
+  length-set (c .loop-node .counts) _ _ ∙ c .loop-node .inv .0,
+  one-more (c .args .nodes .now) (c .loop-node .node-index) _ (c .loop-node .counts) (c .index .result) (omega arith) (c .loop-node .inv .0) (c .index .ensures) (c .loop-node .inv .1),
+)
 
 pub returns : need.returns
 returns c = record {
-    nine = c .loop-node .inv .0;
-    each = λ k h. c .loop-node .inv .1 k h ∙ ap (tally k) (take-all (c .loop-node .node-index) (c .args .nodes .now) (omega arith)) }
+  nine = c .loop-node .inv .0;
+  each = λ k h. c .loop-node .inv .1 k h ∙ ap (tally k) (take-all (c .loop-node .node-index) (c .args .nodes .now) (omega arith));
+}
