@@ -32,13 +32,22 @@ impl Desk {
         let check_storage = CheckStorage::new(heap)?;
         let program = Program::new(heap)?;
         let accepted = AcceptedProgram::new(heap)?;
-        Ok(Desk { read_storage, check_storage, program, accepted })
+        Ok(Desk {
+            read_storage,
+            check_storage,
+            program,
+            accepted,
+        })
     }
 
     /// Reads and checks the sheet, and answers the number of its nodes.
     fn accept(&mut self, sheet: &[u8]) -> Result<usize, Refusal> {
         read(sheet, &mut self.read_storage, &mut self.program)?;
-        check(&mut self.program, &mut self.check_storage, &mut self.accepted)?;
+        check(
+            &mut self.program,
+            &mut self.check_storage,
+            &mut self.accepted,
+        )?;
         Ok(self.accepted.program.nodes().len())
     }
 }
@@ -54,7 +63,10 @@ fn long_sheet(heap: Global) -> Result<Vec<u8>, AllocError> {
         let gate = last + 2;
         let body = last + 3;
         let binder = last + 4;
-        let text = format!(heap, "v\t0\t0\ng\tH\na\t{gate}\t{variable}\nl\t1\t{body}\na\t{binder}\t{last}\n")?;
+        let text = format!(
+            heap,
+            "v\t0\t0\ng\tH\na\t{gate}\t{variable}\nl\t1\t{body}\na\t{binder}\t{last}\n"
+        )?;
         sheet.extend_from_slice(text.as_bytes())?;
     }
     sheet.extend_from_slice(b"g\tH\na\t4093\t4092\ng\tH\na\t4095\t4094\n")?;
@@ -72,7 +84,14 @@ fn accept_often(desk: &mut Desk, sheet: &[u8], turns: u32) -> usize {
     nodes
 }
 
-fn measure(rt: &LibcRuntime, desk: &mut Desk, name: &str, sheet: &[u8], turns: u32, timed: bool) -> Result<(), AnyError> {
+fn measure(
+    rt: &LibcRuntime,
+    desk: &mut Desk,
+    name: &str,
+    sheet: &[u8],
+    turns: u32,
+    timed: bool,
+) -> Result<(), AnyError> {
     let start = Instant::now(rt)?;
     let nodes = accept_often(desk, sheet, turns);
     let spent = start.elapsed(rt)?.as_nanos();
@@ -90,6 +109,13 @@ fn main(rt: LibcRuntime) -> Result<(), AnyError> {
     let mut desk = Desk::new(heap)?;
     let long = long_sheet(heap)?;
     let scale = if timed { 1000 } else { 1 };
-    measure(&rt, &mut desk, "4096 lines", long.as_slice(), 5 * scale, timed)?;
+    measure(
+        &rt,
+        &mut desk,
+        "4096 lines",
+        long.as_slice(),
+        5 * scale,
+        timed,
+    )?;
     measure(&rt, &mut desk, "14 lines", BELL, 1000 * scale, timed)
 }

@@ -7,15 +7,15 @@ use lib.Dec.{ltb}
 use Rattle.std.specs.Of.Vec.{vec-items, vec-len, vec-cap}
 use Rattle.std.specs.declared.vec.Vec.{Vec}
 use Rattle.std.specs.declared.alloc.Global.{Global}
-use Rattle.terms.specs.Term.{Term, var, wire, bit, gate, new, bang, app, tuple, abs, Terms, none, part, count, size, sizes}
+use Rattle.terms.specs.Term.{Term, var, wire, bit, gate, new, bang, app, tuple, abs, Terms, none, part, count, size}
 use Rattle.terms.specs.Flat.{flats}
 use Rattle.terms.specs.declared.Node.{Node}
 use Rattle.terms.specs.declared.Kind.{Kind}
 use Rattle.terms.specs.declared.Kind.the-variants.{Variable, Wire, Constant, Gate, New, Bang, Application, Tuple, Binder}
-use Rattle.check.specs.Faults.{Scope, frame}
 use Rattle.check.specs.declared.site.Frame.{Frame}
 use Rattle.check.specs.declared.site.Site.{Site}
 use Rattle.check.specs.declared.site.Site.the-variants.{Other, Free, Use, Lead, Opening}
+use Rattle.check.specs.Faults.{Scope, frame}
 
 -- The list begins with the nodes of the terms ts.
 pub record Forest (xs : List Node) (ts : Terms) : Type 0 where

@@ -11,8 +11,8 @@ use Rattle.sheet.specs.declared.program.Program.{Program}
 use Rattle.sheet.specs.declared.refusal.Rule.{Rule}
 use Rattle.sheet.specs.declared.refusal.Rule.the-variants.{Form, Size, Part, Unbound as Rule-Unbound, Misused as Rule-Misused, Shut as Rule-Shut, Repeated as Rule-Repeated}
 use Rattle.sheet.specs.declared.refusal.Refusal.{Refusal}
-use Rattle.check.specs.Faults.{Unbound, Misused, Shut, Repeated, Nowhere, Least}
 use Rattle.check.specs.declared.accepted.AcceptedProgram.{AcceptedProgram}
+use Rattle.check.specs.Faults.{Unbound, Misused, Shut, Repeated, Nowhere, Least}
 
 -- The rule is the first that is broken, and l is the smallest line that breaks it. The other rules are those of reading.
 abbrev pub Breaks : Term → List ℕ → Rule → ℕ → Type 0

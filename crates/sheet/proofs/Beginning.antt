@@ -13,12 +13,12 @@ use Rattle.sheet.proofs.Unbroken.{written-unbroken}
 use Rattle.sheet.proofs.Uncut.{first-cut}
 use Rattle.sheet.proofs.Writing.{each-append, none-earlier}
 
-text-append : (es ds : List Entry) → text (es ++ ds) ≡ text es ++ text ds
+pub text-append : (es ds : List Entry) → text (es ++ ds) ≡ text es ++ text ds
 text-append [] ds = refl
 text-append (e ∷ es) ds =
     ap (λ xs. written e ++ (10 ∷ xs)) (text-append es ds) ∙ sym (append-assoc (written e) (10 ∷ text es) (text ds))
 
-used-append : (es ds : List Entry) → used (es ++ ds) ≡ used es ++ used ds
+pub used-append : (es ds : List Entry) → used (es ++ ds) ≡ used es ++ used ds
 used-append [] ds = refl
 used-append (e ∷ es) ds = ap (λ xs. e .1 ++ xs) (used-append es ds) ∙ sym (append-assoc (e .1) (used es) (used ds))
 

@@ -12,3 +12,6 @@ pub mod Stacking
 pub mod Marking
 pub mod Beginning
 pub mod Filled
+pub mod Injective
+pub mod Agreeing
+pub mod Determined

@@ -21,10 +21,10 @@ use Rattle.sheet.proofs.Collecting.{one-list}
 use Rattle.sheet.proofs.Shaping.{byte, letter-byte, numbers, Numeric, numeric, complete, sound}
 
 -- The fields of an entry.
-abbrev fields : Entry → List (List ℕ)
+abbrev pub fields : Entry → List (List ℕ)
 fields e = own (e .0) ++ map decimal (e .1)
 
-written-byte : (e : Entry) → written e ≡ byte (e .0) ∷ tabbed (fields e)
+pub written-byte : (e : Entry) → written e ≡ byte (e .0) ∷ tabbed (fields e)
 written-byte e = ap (λ l. l ++ tabbed (fields e)) (letter-byte (e .0))
 
 -- An entry with a letter and the rest of its line.

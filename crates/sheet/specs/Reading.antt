@@ -64,3 +64,12 @@ Reads bs (Err f) old now = Refuses bs (f .rule) (f .line) × (now ≡ old)
 pub record Holds-zero (p : Program) : Type 0 where
   pub zero : term-of p ≡ bit false
   pub on-line-one : lines-of p ≡ 1 ∷ []
+
+-- A sheet is refused in at most one way, is not both refused and read, and is read as one program only.
+pub record Determined (bs : List ℕ) : Type 0 where
+  pub one-refusal : (r s : Rule) (l m : ℕ) → Refuses bs r l → Refuses bs s m → (r ≡ s) × (l ≡ m)
+  pub not-both : (r : Rule) (l : ℕ) (p : Program) → Refuses bs r l → Holds-sheet bs p → ⊥
+  pub one-program : (p q : Program) → Holds-sheet bs p → Holds-sheet bs q → (term-of p ≡ term-of q) × (lines-of p ≡ lines-of q)
+
+abbrev pub Reading-is-determined : Type 0
+Reading-is-determined = (bs : List ℕ) → Determined bs

@@ -1,7 +1,7 @@
 //! Reading a program sheet.
 ghost use mathlib.Core.Path.{_≡_};
 ghost use Rattle.std.specs.Vec.{made};
-ghost use Rattle.sheet.specs.Reading.{Holds-zero, Reads};
+ghost use Rattle.sheet.specs.Reading.{Holds-zero, Reads, Reading-is-determined};
 use lines::read_lines;
 use program::Program;
 use refusal::Refusal;
@@ -78,4 +78,11 @@ pub fn read(sheet: &[u8], storage: &mut ReadStorage, place: &mut Program) -> Res
         &mut place.lines,
     );
     Ok(())
+}
+
+/// The definition of reading gives each sheet one answer only, the one that `read` gives.
+pub fn reading_is_determined() -> u8
+    ensures { λ _. ⌜ Reading-is-determined ⌝ }
+{
+    0
 }

@@ -6,7 +6,7 @@ use terms::Kind;
 
 /// At most eight numbers: the first `count` of the list.
 #[derive(Clone, Copy)]
-pub struct Numbers {
+pub(crate) struct Numbers {
     pub list: [u16; 8],
     pub count: u8,
     ghost few: { count ≤ 8 },
@@ -15,7 +15,7 @@ pub struct Numbers {
 
 /// What a line says: the kind of its node, and the lines of its parts.
 #[derive(Clone, Copy)]
-pub struct Line {
+pub(crate) struct Line {
     pub kind: Kind,
     pub parts: Numbers,
 }

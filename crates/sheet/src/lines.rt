@@ -41,7 +41,7 @@ fn is_sized(sheet: &[u8]) -> bool
 }
 
 /// Puts the lines of the sheet into `sheet_lines`, and the marks of those that are used into `used`.
-pub fn read_lines(
+pub(crate) fn read_lines(
     sheet: &[u8],
     sheet_lines: &mut Vec<Line>,
     used: &mut Vec<bool>,

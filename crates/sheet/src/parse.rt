@@ -145,7 +145,7 @@ fn shaped(letter: u8, numbers: Numbers) -> Option<Line>
 }
 
 /// What a line says, which stands here without its line feed; none if it follows no form.
-pub fn line_of(line: &[u8]) -> Option<Line>
+pub(crate) fn line_of(line: &[u8]) -> Option<Line>
     ensures { λ r. ⌜ Parses (now (line .entry)) r ⌝ }
 {
     match line {

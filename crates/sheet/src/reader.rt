@@ -8,7 +8,7 @@ use crate::split::split_once;
 
 /// A sheet and how far it is read: `line` lines, and the next begins at `place`.
 #[derive(Drop)]
-pub struct Reader<'a> {
+pub(crate) struct Reader<'a> {
     pub(crate) sheet: &'a [u8],
     pub(crate) place: usize,
     pub(crate) line: usize,
@@ -18,7 +18,7 @@ pub struct Reader<'a> {
 
 impl<'a> Reader<'a> {
     /// A reader at the beginning of the sheet.
-    pub fn new(sheet: &'a [u8]) -> Reader<'a>
+    pub(crate) fn new(sheet: &'a [u8]) -> Reader<'a>
         ensures { λ r. ⌜ (now (r .sheet) ≡ now (sheet .entry)) × (r .place ≡ 0) × (r .line ≡ 0) ⌝ }
     {
         Reader {
@@ -29,7 +29,7 @@ impl<'a> Reader<'a> {
     }
 
     /// The next line without its line feed, if one ends it.
-    pub fn next_line(&mut self) -> Option<&'a [u8]>
+    pub(crate) fn next_line(&mut self) -> Option<&'a [u8]>
         ensures next { λ r. ⌜ Next (now (now (self .entry) .sheet)) (now (self .entry) .place) (now (self .exit) .place) (now (self .entry) .line) (now (self .exit) .line) r ⌝ }
         ensures sheet { λ r. ⌜ now (self .exit) .sheet ≡ now (self .entry) .sheet ⌝ }
     {

@@ -14,7 +14,7 @@ fn position(bytes: &[u8], stop: u8) -> Option<usize>
 }
 
 /// The bytes before the first `stop`, and those after it.
-pub fn split_once<'a>(bytes: &'a [u8], stop: u8) -> Option<(&'a [u8], &'a [u8])>
+pub(crate) fn split_once<'a>(bytes: &'a [u8], stop: u8) -> Option<(&'a [u8], &'a [u8])>
     ensures { λ r. ⌜ Cuts stop (now (bytes .entry)) r ⌝ }
 {
     match position(bytes, stop) {

@@ -26,7 +26,7 @@ fn push_all(numbers: Numbers, stack: &mut Vec<u16>)
 
 /// Puts the nodes of the last line's term into `nodes`, in the order of their numbers, and their lines into `lines`.
 /// `pending` is a stack of lines whose terms are still to come.
-pub fn fill_table(
+pub(crate) fn fill_table(
     sheet_lines: &Vec<Line>,
     pending: &mut Vec<u16>,
     nodes: &mut Vec<Node>,

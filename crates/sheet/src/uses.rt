@@ -10,7 +10,7 @@ use crate::line::Numbers;
 
 /// Marks the parts of the next line as used. False if one is not an earlier line, which has a mark in `used`, or is
 /// marked already, by this very line too.
-pub fn mark(parts: Numbers, used: &mut [bool]) -> bool
+pub(crate) fn mark(parts: Numbers, used: &mut [bool]) -> bool
     ensures { λ r. ⌜ ((ws : List ℕ) → Marks (now (used .entry)) ws → ((p : ℕ) → times p ws ≤ 1) → Marked (length (now (used .entry))) ws (listed parts) (now (used .exit)) r) ⌝ }
 {
     for i in 0..parts.count as usize {
@@ -27,7 +27,7 @@ pub fn mark(parts: Numbers, used: &mut [bool]) -> bool
 }
 
 /// The first line from 1 on, the last excepted, that is not marked.
-pub fn first_unused(used: &[bool]) -> Option<u16>
+pub(crate) fn first_unused(used: &[bool]) -> Option<u16>
     requires some { ⌜ 1 ≤ length (now used) ⌝ }
     requires few { ⌜ length (now used) ≤ 4097 ⌝ }
     ensures { λ r. ⌜ ((ws : List ℕ) → Marks (now (used .entry)) ws → First-unused (length (now (used .entry)) - 1) ws r) ⌝ }
