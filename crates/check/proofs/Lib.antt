@@ -11,3 +11,4 @@ pub mod Uses
 pub mod Ranges
 pub mod Counts
 pub mod Checking
+pub mod Deciding

@@ -50,3 +50,7 @@ pub record Refused (f : Refusal) (given left : Program) (held holds : AcceptedPr
 abbrev pub Checked : Result (Unit {0}) Refusal → Program → Program → AcceptedProgram → AcceptedProgram → Type 0
 Checked (Ok _) given left held holds = Admitted given left held holds
 Checked (Err f) given left held holds = Refused f given left held holds
+
+-- The theorem: a program has at most one verdict.
+abbrev pub Verdict-is-determined : Type 0
+Verdict-is-determined = (t : Term) (lines : List ℕ) (r s : Rule) (l m : ℕ) → Breaks t lines r l → Breaks t lines s m → (r ≡ s) × (l ≡ m)

@@ -1,7 +1,7 @@
 //! Checking a program against the rules of derivation.
 ghost use Rattle.std.specs.Vec.{made};
 ghost use Rattle.sheet.specs.Reading.{Holds-zero};
-ghost use Rattle.check.specs.Verdict.{Decided, Checked};
+ghost use Rattle.check.specs.Verdict.{Decided, Checked, Verdict-is-determined};
 use accepted::AcceptedProgram;
 use rules::judge;
 use sheet::program::Program;
@@ -79,4 +79,11 @@ pub fn check(
     verdict(program, storage)?;
     std::mem::swap(program, &mut place.program);
     Ok(())
+}
+
+/// A program breaks one rule first, at one line: there is no other verdict than the one that `check` gives.
+pub fn verdict_is_determined() -> u8
+    ensures { λ _. ⌜ Verdict-is-determined ⌝ }
+{
+    0
 }
