@@ -14,7 +14,7 @@ use Rattle.check.specs.declared.site.Site.the-variants.{Other}
 use Rattle.check.specs.Faults.{Scope, frame, At, Ats, here, in-new, in-bang, in-fun, in-arg, in-tuple, in-abs, in-part, in-rest}
 use Rattle.check.specs.Sites.{siteOf, sites, sitess}
 use Rattle.check.proofs.Walks.{length-sites}
-use Rattle.check.proofs.Tables.{size-parts}
+use Rattle.terms.proofs.Forests.{size-parts}
 
 mutual
   pub at-range : {G : Scope} {b m : ℕ} {t : Term} {n : ℕ} {H : Scope} {c : ℕ} {s : Term} → At G b m t n H c s → (m ≤ n) × (n < m + size t)

@@ -8,34 +8,11 @@ use Rattle.std.specs.Of.Vec.{vec-items, vec-len}
 use Rattle.std.specs.declared.vec.Vec.{Vec}
 use Rattle.std.specs.declared.alloc.Global.{Global}
 use Rattle.std.proofs.shelf.Lists.{drop-more}
-use Rattle.terms.specs.Term.{Term, var, wire, bit, gate, new, bang, app, tuple, abs, Terms, none, part, size, sizes, count}
-use Rattle.terms.specs.Flat.{partCount, flat, flats, node, parts}
+use Rattle.terms.specs.Term.{Term, Terms, none, part, sizes, count}
+use Rattle.terms.specs.Flat.{partCount, flats, node, parts}
 use Rattle.terms.specs.declared.Node.{Node}
-use Rattle.terms.proofs.Forests.{join, length-flats, flat-node, count-parts}
+use Rattle.terms.proofs.Forests.{join, length-flats, flat-node, count-parts, size-parts, flats-join, count-join, sizes-join}
 use Rattle.check.specs.Sites.{Forest}
-
-pub size-parts : (t : Term) → size t ≡ 1 + sizes (parts t)
-size-parts (var u p) = refl
-size-parts (wire w) = refl
-size-parts (bit c) = refl
-size-parts (gate g) = refl
-size-parts (new t) = omega arith
-size-parts (bang t) = omega arith
-size-parts (app f a) = omega arith
-size-parts (tuple ts) = refl
-size-parts (abs n t) = omega arith
-
-flats-join : (ts us : Terms) → flats (join ts us) ≡ flats ts ++ flats us
-flats-join none us = refl
-flats-join (part t ts) us = rw (flats-join ts us) (sym (append-assoc (flat t) (flats ts) (flats us)))
-
-count-join : (ts us : Terms) → count (join ts us) ≡ count ts + count us
-count-join none us = omega arith
-count-join (part t ts) us = omega (arith, count-join ts us)
-
-sizes-join : (ts us : Terms) → sizes (join ts us) ≡ sizes ts + sizes us
-sizes-join none us = omega arith
-sizes-join (part t ts) us = omega (arith, sizes-join ts us)
 
 pub sizes-of-flats : (ts : Terms) → count ts ≤ sizes ts
 sizes-of-flats none = omega arith

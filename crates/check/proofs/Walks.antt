@@ -19,7 +19,8 @@ use Rattle.check.specs.declared.site.Site.{Site}
 use Rattle.check.specs.declared.site.Site.the-variants.{Other, Opening}
 use Rattle.check.specs.Sites.{Forest, siteAt, sites, sitess, Walked}
 use Rattle.check.specs.Faults.{Scope, frame}
-use Rattle.check.proofs.Tables.{size-parts, opened, fits-table, sizes-of-flats}
+use Rattle.terms.proofs.Forests.{size-parts}
+use Rattle.check.proofs.Tables.{opened, fits-table, sizes-of-flats}
 
 mutual
   pub length-sites : (G : Scope) (b m : ℕ) (t : Term) → length (sites G b m t) ≡ size t

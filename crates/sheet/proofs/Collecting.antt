@@ -1,9 +1,10 @@
 -- The numbers in the fields of a line: a line has one list of them.
 use mathlib.Core.Path.{_≡_, refl, sym, _∙_, ap, subst}
 use mathlib.Core.List.{List, [], _∷_, _++_, map}
+use mathlib.Core.Bool.{Bool, true, false}
 use Prim.Native.Nat.{ℕ, _+_, _≤_}
 use native.Mathlib.Omega.{arith}
-use lib.ListN.{length}
+use lib.ListN.{length, drop}
 use Rattle.std.specs.Written.{decimal}
 use Rattle.std.proofs.shelf.Lists.{append-nil, append-assoc, length-push}
 use Rattle.std.proofs.shelf.Decimals.{same-from-decimal}
@@ -13,6 +14,7 @@ use Rattle.sheet.specs.Entry.{tabbed}
 use Rattle.sheet.specs.Fields.{Fields, Collected, Collects}
 use Rattle.sheet.specs.Numeral.{Numeral, Numbered}
 use Rattle.sheet.specs.Sheet.{times}
+use Rattle.sheet.specs.Split.{Field}
 use Rattle.sheet.proofs.Uncut.{Tail, end, more, first-field, decimal-lacks}
 
 tabs : (fs : List (List ℕ)) → Tail 9 (tabbed fs)
@@ -81,3 +83,14 @@ module _ (before bs f t : List ℕ) (text : bs ≡ f ++ t) (whole : times 9 f �
   pub more-numbers : (n : ℕ) (rest : List ℕ) → Numeral f n → t ≡ 9 ∷ rest → (r : Option (List ℕ)) → Collects (before ++ (n ∷ [])) rest r → Collects before bs r
   more-numbers n rest k e (Some all) c = joined n k (c .numbers) all (subst (λ x. Fields x (c .numbers)) (sym e) (c .fields)) (c .together)
   more-numbers n rest k e None c = λ ns w room. c (fronts ns w .rest) (subst (λ x. Fields x (fronts ns w .rest)) e (fronts ns w .fields)) (omega (arith, length-push before n, ap length (fronts ns w .is)))
+
+-- What stands after a field that a reader handed out.
+pub record Opens (bs f : List ℕ) : Type 0 where
+  pub rest : List ℕ
+  pub text : bs ≡ f ++ rest
+  pub whole : times 9 f ≡ 0
+  pub tail : Tail 9 rest
+
+pub opens : (bs : List ℕ) (from to : ℕ) (f : List ℕ) (b : Bool) → Field bs from to f b → Opens (drop from bs) f
+opens bs from to f true h = record { rest = 9 ∷ drop to bs; text = h .cut .text; whole = h .cut .whole; tail = more (drop to bs) }
+opens bs from to f false h = record { rest = []; text = sym (h .text) ∙ sym (append-nil f); whole = h .whole; tail = end }

@@ -7,7 +7,7 @@ use lib.ListN.{length, getD, take, drop, length-drop}
 use lib.Seq.{drop-drop}
 use Rattle.std.proofs.shelf.Lists.{take-rest, take-more, drop-more, drop-at, length-append, length-push, append-assoc, take-append-drop}
 use Rattle.sheet.specs.Sheet.{times}
-use Rattle.sheet.specs.Split.{First, Cut, Step, Stop}
+use Rattle.sheet.specs.Split.{First, Cut, Reach, Stop, Last-field}
 use Rattle.sheet.proofs.Times.{times-append, times-other}
 
 pub passed-more : (stop : ℕ) (bs : List ℕ) (i : ℕ) → i < length bs → times stop (take i bs) ≡ 0 → (getD bs i 0 ≡ stop → ⊥) → times stop (take (i + 1) bs) ≡ 0
@@ -24,21 +24,23 @@ cut-at stop bs i f =
       whole = f .before;
     })
 
--- What stands after a line that was cut off, as a part of the whole sheet.
-after : (bs : List ℕ) (from : ℕ) (l rest : List ℕ) → drop from bs ≡ l ++ (10 ∷ rest) → rest ≡ drop (from + (length l + 1)) bs
-after bs from l rest e =
-    let g : l ++ (10 ∷ rest) ≡ (l ++ (10 ∷ [])) ++ rest = sym (append-assoc l (10 ∷ []) rest) in
-    sym (drop-at (l ++ (10 ∷ [])) rest (length l + 1) (length-push l 10)) ∙ ap (λ x. drop (length l + 1) x) (sym g ∙ sym e) ∙ drop-drop (length l + 1) from bs
+-- What stands after a part that was cut off, as a part of the whole.
+after : (stop : ℕ) (bs : List ℕ) (from : ℕ) (l rest : List ℕ) → drop from bs ≡ l ++ (stop ∷ rest) → rest ≡ drop (from + (length l + 1)) bs
+after stop bs from l rest e =
+    let g : l ++ (stop ∷ rest) ≡ (l ++ (stop ∷ [])) ++ rest = sym (append-assoc l (stop ∷ []) rest) in
+    sym (drop-at (l ++ (stop ∷ [])) rest (length l + 1) (length-push l stop)) ∙ ap (λ x. drop (length l + 1) x) (sym g ∙ sym e) ∙ drop-drop (length l + 1) from bs
 
-pub stepped : (bs : List ℕ) (from line : ℕ) (l rest : List ℕ) → from ≤ length bs → Cut 10 (take (length bs - from) (drop from bs)) l rest → Step bs from (from + (length l + 1)) line (line + 1) l
-stepped bs from line l rest h p =
-    let q : Cut 10 (drop from bs) l rest = subst (λ x. Cut 10 x l rest) (take-rest bs from) p in
+pub reached : (stop : ℕ) (bs : List ℕ) (from : ℕ) (l rest : List ℕ) → from ≤ length bs → Cut stop (take (length bs - from) (drop from bs)) l rest → Reach stop bs from (from + (length l + 1)) l
+reached stop bs from l rest h p =
+    let q : Cut stop (drop from bs) l rest = subst (λ x. Cut stop x l rest) (take-rest bs from) p in
     record {
-      cut = subst (λ x. Cut 10 (drop from bs) l x) (after bs from l rest (q .text)) q;
+      cut = subst (λ x. Cut stop (drop from bs) l x) (after stop bs from l rest (q .text)) q;
       on = omega arith;
-      within = omega (arith, ap length (q .text), length-append l (10 ∷ rest), length-drop from bs);
-      counted = refl;
+      within = omega (arith, ap length (q .text), length-append l (stop ∷ rest), length-drop from bs);
     }
 
 pub stopped : (bs : List ℕ) (from line : ℕ) → times 10 (take (length bs - from) (drop from bs)) ≡ 0 → Stop bs from from line line
 stopped bs from line e = record { last = rw (take-rest bs from) at e; same = refl; counted = refl }
+
+pub last-field : (bs : List ℕ) (from : ℕ) → times 9 (take (length bs - from) (drop from bs)) ≡ 0 → Last-field bs from (take (length bs - from) (drop from bs))
+last-field bs from e = record { text = take-rest bs from; whole = e }

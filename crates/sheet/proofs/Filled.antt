@@ -6,11 +6,10 @@ use Prim.Native.Nat.{ℕ, zero, suc, _+_, _≤_, _<_}
 use native.Mathlib.Omega.{arith}
 use lib.ListN.{length, getD, length-append}
 use Rattle.terms.specs.Term.{Term, Terms, size, sizes}
-use Rattle.terms.specs.Flat.{flat, parts}
 use Rattle.terms.specs.Shape.{shaped}
 use Rattle.terms.specs.Parse.{term, Holds-term}
 use Rattle.terms.specs.declared.Node.{Node}
-use Rattle.terms.proofs.Forests.{length-flat, length-flats, flat-node}
+use Rattle.terms.proofs.Forests.{length-flat, size-parts}
 use Rattle.terms.proofs.Parsing.{term-is, holds-term}
 use Rattle.terms.proofs.Shaping.{is-shaped}
 use Rattle.sheet.specs.Entry.{Entry, Each}
@@ -19,10 +18,7 @@ use Rattle.sheet.specs.Reading.{Writes, Write, line, no-parts, more-parts}
 use Rattle.sheet.specs.Tables.{Tabled}
 use Rattle.sheet.proofs.Beginning.{few-lines}
 use Rattle.sheet.proofs.Times.{few}
-use Rattle.sheet.proofs.Writing.{In-lines, writes-range, writes-once, writes-shaped}
-
-size-parts : (t : Term) → size t ≡ 1 + sizes (parts t)
-size-parts t = omega (arith, sym (length-flat t) ∙ ap length (flat-node t), length-flats (parts t))
+use Rattle.sheet.proofs.Writing.{each-at, In-lines, writes-range, writes-once, writes-shaped}
 
 -- Each node has its line.
 mutual
@@ -32,11 +28,6 @@ mutual
   write-length : {es : List Entry} {ps : List ℕ} {ts : Terms} {ls : List ℕ} → Write es ps ts ls → length ls ≡ sizes ts
   write-length no-parts = refl
   write-length (more-parts {ls = ls} {ms = ms} w ws) = omega (arith, length-append ls ms, writes-length w, write-length ws)
-
-each-at : (P : ℕ → Type 0) (xs : List ℕ) (n : ℕ) → Each P xs → n < length xs → P (getD xs n 0)
-each-at P [] n h l = absurd (omega arith)
-each-at P (x ∷ xs) zero h l = h .0
-each-at P (x ∷ xs) (suc n) h l = each-at P xs n (h .1) (omega arith)
 
 pub record Filled (es : List Entry) (nodes : List Node) (lines : List ℕ) : Type 0 where
   pub tree : Holds-term nodes

@@ -14,18 +14,13 @@ use Rattle.sheet.specs.Entry.{Each}
 use Rattle.sheet.specs.Sheet.{times}
 use Rattle.sheet.specs.Uses.{Marks, Fits}
 use Rattle.sheet.proofs.Times.{mark-same, mark-other, times-append}
-use Rattle.sheet.proofs.Writing.{each-append}
+use Rattle.sheet.proofs.Writing.{each-append, each-at}
 
 pub marked-once : (us : List Bool) (ws : List ℕ) (p : ℕ) → Marks us ws → p < length us → getD us p false ≡ true → 1 ≤ times p ws
 marked-once us ws p m l e = ltb-true 0 (times p ws) (sym (m p l) ∙ e)
 
 pub unmarked-none : (us : List Bool) (ws : List ℕ) (p : ℕ) → Marks us ws → p < length us → getD us p false ≡ false → times p ws ≡ 0
 unmarked-none us ws p m l e = omega (arith, ltb-false 0 (times p ws) (sym (m p l) ∙ e))
-
-each-at : (n : ℕ) (ps : List ℕ) (i : ℕ) → Each (λ p. p < n) ps → i < length ps → getD ps i 0 < n
-each-at n [] i h l = absurd (omega arith)
-each-at n (p ∷ ps) zero h l = h .0
-each-at n (p ∷ ps) (suc i) h l = each-at n ps i (h .1) (omega arith)
 
 pub starts : (n : ℕ) (ws : List ℕ) → ((p : ℕ) → times p ws ≤ 1) → Fits n ws []
 starts n ws h = record { earlier = tt; once = λ p. subst (λ (xs : List ℕ). times p xs ≤ 1) (sym (append-nil ws)) (h p) }
@@ -55,7 +50,7 @@ marks-more us ws p m q l =
 
 -- A part that is not an earlier line, or is marked, does not fit.
 pub late : (n : ℕ) (ws ps : List ℕ) (i : ℕ) → i < length ps → n ≤ getD ps i 0 → Fits n ws ps → ⊥
-late n ws ps i l h f = omega (arith, each-at n ps i (f .earlier) l)
+late n ws ps i l h f = omega (arith, each-at (λ p. p < n) ps i (f .earlier) l)
 
 pub repeated : (n : ℕ) (ws ps : List ℕ) (i : ℕ) → i < length ps → 1 ≤ times (getD ps i 0) (ws ++ take i ps) → Fits n ws ps → ⊥
 repeated n ws ps i l h f =

@@ -8,7 +8,7 @@ use Rattle.std.proofs.shelf.Lists.{reverse-append, reverse-reverse, length-reve
 use Rattle.terms.specs.Term.{Term, Terms, none, part}
 use Rattle.terms.specs.Flat.{flat, flats, nodeOf, kindOf, parts}
 use Rattle.terms.specs.declared.Node.{Node}
-use Rattle.terms.proofs.Forests.{join, flat-node}
+use Rattle.terms.proofs.Forests.{join, flat-node, flats-join}
 use Rattle.sheet.specs.Entry.{Entry, Each, Proper}
 use Rattle.sheet.specs.Sheet.{Placed}
 use Rattle.sheet.specs.Entries.{listed, entry, entries}
@@ -50,10 +50,6 @@ write-append : {es : List Entry} {ps : List ℕ} {ts : Terms} {ls : List ℕ} �
 write-append no-parts qs us ms v = v
 write-append {es = es} (more-parts {p = p} {ps = ps} {t = t} {ts = ts} {ls = ls} {ms = ls'} w ws) qs us ms v =
     subst (λ xs. Write es (p ∷ (ps ++ qs)) (part t (join ts us)) xs) (sym (append-assoc ls ls' ms)) (more-parts w (write-append ws qs us ms v))
-
-flats-join : (ts us : Terms) → flats (join ts us) ≡ flats ts ++ flats us
-flats-join none us = refl
-flats-join (part t ts) us = ap (λ xs. flat t ++ xs) (flats-join ts us) ∙ sym (append-assoc (flat t) (flats ts) (flats us))
 
 -- The line on top of the stack.
 record Top (es : List Entry) (rest : List ℕ) (n : ℕ) (terms : Terms) (left : List ℕ) : Type 0 where

@@ -6,7 +6,7 @@ use mathlib.Core.List.{List, [], _∷_, _++_}
 use Prim.Native.Nat.{ℕ, zero, suc, _+_, _≤_, _<_}
 use native.Mathlib.Omega.{arith}
 use lib.Dec.{eqb}
-use lib.ListN.{length}
+use lib.ListN.{length, getD}
 use Rattle.std.proofs.shelf.Tests.{eq-eqb, ne-eqb, cases-eq, cases-lt}
 use Rattle.terms.specs.Term.{Term, var, wire, bit, gate, new, bang, app, tuple, abs, Terms, none, part, count}
 use Rattle.terms.specs.Flat.{kindOf, kindParts, parts}
@@ -25,6 +25,11 @@ each-map P Q (x ∷ xs) f h = (f x (h .0), each-map P Q xs f (h .1))
 pub each-append : {A : Type 0} (P : A → Type 0) (xs ys : List A) → Each P xs → Each P ys → Each P (xs ++ ys)
 each-append P [] ys g h = h
 each-append P (x ∷ xs) ys g h = (g .0, each-append P xs ys (g .1) h)
+
+pub each-at : (P : ℕ → Type 0) (xs : List ℕ) (n : ℕ) → Each P xs → n < length xs → P (getD xs n 0)
+each-at P [] n h l = absurd (omega arith)
+each-at P (x ∷ xs) zero h l = h .0
+each-at P (x ∷ xs) (suc n) h l = each-at P xs n (h .1) (omega arith)
 
 -- A line's number, its entry, and its parts.
 pub line-range : {es : List Entry} {n : ℕ} {e : Entry} → Line es n e → (1 ≤ n) × (n ≤ length es)

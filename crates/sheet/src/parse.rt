@@ -7,7 +7,7 @@ ghost use Rattle.sheet.specs.Fields.{Collects, positive, shape, Shapes};
 ghost use Rattle.sheet.specs.Numeral.{digitsFrom, Numbered};
 use crate::line::Line;
 use crate::line::Numbers;
-use crate::split::split_once;
+use crate::reader::Reader;
 use terms::Gate;
 use terms::Kind;
 use terms::Wire;
@@ -83,20 +83,15 @@ fn numbers_in(bytes: &[u8]) -> Option<Numbers>
     ensures { λ r. ⌜ Collects [] (now (bytes .entry)) (mapped listed r) ⌝ }
 {
     let mut list = [0; 8];
-    let mut rest = bytes;
+    let mut fields = Reader::new(bytes);
     for i in 0..8 {
-        match split_once(rest, b'\t') {
-            Some((field, after)) => {
-                list[i] = number(field)?;
-                rest = after;
-            }
-            None => {
-                list[i] = number(rest)?;
-                return Some(Numbers {
-                    list,
-                    count: i as u8 + 1,
-                });
-            }
+        let (field, more) = fields.next_field();
+        list[i] = number(field)?;
+        if !more {
+            return Some(Numbers {
+                list,
+                count: i as u8 + 1,
+            });
         }
     }
     None

@@ -1,12 +1,13 @@
-//! The lines of a sheet, one after another.
+//! The lines of a sheet and the fields of a line, one after another.
 ghost use denote.Ref.{now};
 ghost use mathlib.Core.Path.{_≡_};
 ghost use Prim.Native.Nat.{_≤_};
 ghost use lib.ListN.{length};
-ghost use Rattle.sheet.specs.Split.{Next};
+ghost use Rattle.sheet.specs.Split.{Next, Field};
 use crate::split::split_once;
 
-/// A sheet and how far it is read: `line` lines, and the next begins at `place`.
+/// A sheet and how far it is read: `line` lines, and what is left begins at `place`. What it hands out are parts of the
+/// sheet.
 #[derive(Drop)]
 pub(crate) struct Reader<'a> {
     pub(crate) sheet: &'a [u8],
@@ -40,6 +41,21 @@ impl<'a> Reader<'a> {
                 Some(line)
             }
             None => None,
+        }
+    }
+
+    /// The next field of a line, and whether a tab ends it, so that another field follows.
+    pub(crate) fn next_field(&mut self) -> (&'a [u8], bool)
+        ensures field { λ r. ⌜ Field (now (now (self .entry) .sheet)) (now (self .entry) .place) (now (self .exit) .place) (now (r .0)) (r .1) ⌝ }
+        ensures sheet { λ r. ⌜ now (self .exit) .sheet ≡ now (self .entry) .sheet ⌝ }
+    {
+        let rest = &self.sheet[self.place..];
+        match split_once(rest, b'\t') {
+            Some((field, _)) => {
+                self.place += field.len() + 1;
+                (field, true)
+            }
+            None => (rest, false),
         }
     }
 }

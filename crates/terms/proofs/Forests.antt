@@ -1,6 +1,7 @@
 -- Rows of terms, and the lengths of their tables.
 use mathlib.Core.Path.{_≡_, ap, sym, _∙_, refl}
 use mathlib.Core.List.{List, [], _∷_, _++_, append-assoc, append-nil}
+use Prim.Native.Nat.{_+_}
 use native.Mathlib.Omega.{arith}
 use lib.ListN.{length, length-append}
 use Rattle.terms.specs.Term.{Term, var, wire, bit, gate, new, bang, app, tuple, abs, Terms, none, part, count, size, sizes}
@@ -49,3 +50,19 @@ count-parts (bang t) = refl
 count-parts (app f a) = refl
 count-parts (tuple ts) = refl
 count-parts (abs n t) = refl
+
+pub size-parts : (t : Term) → size t ≡ 1 + sizes (parts t)
+size-parts t = omega (arith, sym (length-flat t) ∙ ap length (flat-node t), length-flats (parts t))
+
+-- Two rows of terms in one.
+pub flats-join : (ts us : Terms) → flats (join ts us) ≡ flats ts ++ flats us
+flats-join none us = refl
+flats-join (part t ts) us = ap (λ xs. flat t ++ xs) (flats-join ts us) ∙ sym (append-assoc (flat t) (flats ts) (flats us))
+
+pub count-join : (ts us : Terms) → count (join ts us) ≡ count ts + count us
+count-join none us = omega arith
+count-join (part t ts) us = omega (arith, count-join ts us)
+
+pub sizes-join : (ts us : Terms) → sizes (join ts us) ≡ sizes ts + sizes us
+sizes-join none us = omega arith
+sizes-join (part t ts) us = omega (arith, sizes-join ts us)

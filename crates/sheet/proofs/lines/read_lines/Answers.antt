@@ -51,7 +51,7 @@ few c =
     let s = stepped c in
     let r : List ℕ = drop (c .loop-text .reader .place) (c .args .sheet .now) in
     let r' : List ℕ = drop (c .next-line .last .self .place) (c .args .sheet .now) in
-    omega (arith, few-lines (c .args .sheet .now) (entries (vec-items (c .loop-text .sheet-lines))) r (c .loop-text .inv .1), ap (times 10) (s .cut .text), times-append 10 (c .in-Some .text .now) (10 ∷ r'))
+    omega (arith, few-lines (c .args .sheet .now) (entries (vec-items (c .loop-text .sheet-lines))) r (c .loop-text .inv .1), ap (times 10) (s .reach .cut .text), times-append 10 (c .in-Some .text .now) (10 ∷ r'))
 
 pub cast-result : need.cast-result
 cast-result c = let i = need.at·cast-result c .In-Some in omega (arith, counted i, few i)
@@ -60,7 +60,7 @@ pub returns-in-rest-line-of : need.returns-in-rest-line-of
 returns-in-rest-line-of c =
     let i = need.at·returns-in-rest-line-of c .In-Some in
     record {
-      lined = malformed (c .args .sheet .now) (entries (vec-items (c .loop-text .sheet-lines))) _ (c .in-Some .text .now) _ (c .next-line .last .self .line) (c .loop-text .inv .1) (stepped i .cut) (c .in-rest-line-of .ensures tt) (counted i);
+      lined = malformed (c .args .sheet .now) (entries (vec-items (c .loop-text .sheet-lines))) _ (c .in-Some .text .now) _ (c .next-line .last .self .line) (c .loop-text .inv .1) (stepped i .reach .cut) (c .in-rest-line-of .ensures tt) (counted i);
       line-room = c .loop-text .inv .5;
       mark-room = c .loop-text .inv .6;
     }
@@ -76,7 +76,7 @@ returns-then-not-mark c =
     let h = c .if-not-mark .ensures tt (used es) m (c .loop-text .inv .1 .placed .once) in
     let n : length (c .deref-mut .result .now) ≡ length es + 1 = omega (arith, c .deref-mut .ensures .len, c .loop-text .inv .3, c .loop-text .inv .4, counted i, stepped i .counted) in
     record {
-      lined = inl (misplaced (c .args .sheet .now) es _ (c .in-Some .text .now) _ (entry (c .in-Some-line-of .line)) (c .next-line .last .self .line) (c .loop-text .inv .1) (stepped i .cut) (c .in-Some-line-of .ensures tt .text) (c .in-Some-line-of .ensures tt .proper) (subst (λ (k : ℕ). Fits k (used es) (entry (c .in-Some-line-of .line) .1) → ⊥) n h) (counted i));
+      lined = inl (misplaced (c .args .sheet .now) es _ (c .in-Some .text .now) _ (entry (c .in-Some-line-of .line)) (c .next-line .last .self .line) (c .loop-text .inv .1) (stepped i .reach .cut) (c .in-Some-line-of .ensures tt .text) (c .in-Some-line-of .ensures tt .proper) (subst (λ (k : ℕ). Fits k (used es) (entry (c .in-Some-line-of .line) .1) → ⊥) n h) (counted i));
       line-room = c .loop-text .inv .5;
       mark-room = c .loop-text .inv .6;
     }
@@ -101,7 +101,7 @@ loop-text-again c =
     let h = c .if-not-mark .ensures tt (used es) m (c .loop-text .inv .1 .placed .once) in
     let n : length (c .deref-mut .result .now) ≡ length es + 1 = omega (arith, c .deref-mut .ensures .len, c .loop-text .inv .3, c .loop-text .inv .4, counted i, stepped i .counted) in
     let f : Fits (length es + 1) (used es) (e .1) = subst (λ (k : ℕ). Fits k (used es) (e .1)) n (h .0) in
-    let b = goes-on bs es _ (c .in-Some .text .now) (drop (c .next-line .last .self .place) bs) e (c .loop-text .inv .1) (stepped i .cut) (c .in-Some-line-of .ensures tt .text) (c .in-Some-line-of .ensures tt .proper) f in
+    let b = goes-on bs es _ (c .in-Some .text .now) (drop (c .next-line .last .self .place) bs) e (c .loop-text .inv .1) (stepped i .reach .cut) (c .in-Some-line-of .ensures tt .text) (c .in-Some-line-of .ensures tt .proper) f in
     let g : entries (vec-items (c .push-reserved-in-Some .last .self)) ≡ es ++ (e ∷ []) = ap entries (c .push-reserved-in-Some .ensures .items) ∙ map-append entry (vec-items (c .loop-text .sheet-lines)) (c .in-Some-line-of .line ∷ []) in
     let k : length (c .mark .last .used) ≡ length (es ++ (e ∷ [])) = omega (arith, c .mark .kept .used, n, length-append es (e ∷ [])) in
     let z : times (length (c .mark .last .used)) (used (es ++ (e ∷ []))) ≡ 0 = ap (λ j. times j (used (es ++ (e ∷ [])))) k ∙ last-unused bs (es ++ (e ∷ [])) _ b in

@@ -1,16 +1,16 @@
 use native.Mathlib.Omega.{arith}
 use mathlib.Core.Path.{refl}
-use Rattle.sheet.proofs.Cutting.{stepped, stopped}
+use Rattle.sheet.proofs.Cutting.{reached, stopped}
 use Rattle.sheet.proofs.reader.Reader.next_line.Needs as need
 
 pub ghost-self : need.ghost-self
 ghost-self c =
-    let s = stepped (c .args .self .now .sheet .now) (c .args .self .now .place) (c .args .self .now .line) (c .in-Some .line .now) (c .in-Some .field-0-1 .now) (c .args .self .now .within) (c .in-Some .ensures tt) in
+    let s = reached 10 (c .args .self .now .sheet .now) (c .args .self .now .place) (c .in-Some .line .now) (c .in-Some .field-0-1 .now) (c .args .self .now .within) (c .in-Some .ensures tt) in
     (s .within, (omega (arith, c .args .self .now .counted), tt))
 
 pub returns-in-Some : need.returns-in-Some
 returns-in-Some c = record {
-  next = stepped (c .args .self .now .sheet .now) (c .args .self .now .place) (c .args .self .now .line) (c .in-Some .line .now) (c .in-Some .field-0-1 .now) (c .args .self .now .within) (c .in-Some .ensures tt);
+  next = record { reach = reached 10 (c .args .self .now .sheet .now) (c .args .self .now .place) (c .in-Some .line .now) (c .in-Some .field-0-1 .now) (c .args .self .now .within) (c .in-Some .ensures tt); counted = refl };
   sheet = refl;
 }
 
