@@ -1,16 +1,9 @@
 //! The board: reads a program sheet from standard input, and prints what became of it.
 use account::Account;
 use account::count_kinds;
-use check::accepted::AcceptedProgram;
-use check::check;
-use check::storage::CheckStorage;
-use sheet::program::Program;
-use sheet::read;
+use intake::intake::Intake;
 use sheet::refusal::Refusal;
 use sheet::refusal::RefusalDisplay;
-use sheet::storage::ReadStorage;
-use std::alloc::AllocError;
-use std::alloc::Global;
 use std::error::AnyError;
 use std::io::Read;
 
@@ -43,28 +36,16 @@ fn print_account(rt: &LibcRuntime, account: &Account) -> Result<(), AnyError> {
     Ok(())
 }
 
-/// Reads and checks the sheet, and leaves the program in `accepted`.
-fn accept(
-    heap: Global,
-    sheet: &[u8],
-    accepted: &mut AcceptedProgram,
-) -> Result<Result<(), Refusal>, AllocError> {
-    let mut read_storage = ReadStorage::new(heap)?;
-    let mut check_storage = CheckStorage::new(heap)?;
-    let mut program = Program::new(heap)?;
-    if let Err(refusal) = read(sheet, &mut read_storage, &mut program) {
-        return Ok(Err(refusal));
-    }
-    Ok(check(&mut program, &mut check_storage, accepted))
-}
-
 fn main(rt: LibcRuntime) -> Result<(), AnyError> {
     let heap = rt.alloc();
     let mut sheet = Vec::new(heap);
     rt.stdin().take(MOST).read_to_end(&mut sheet)?;
-    let mut accepted = AcceptedProgram::new(heap)?;
-    match accept(heap, sheet.as_slice(), &mut accepted)? {
+    let mut intake = Intake::new(heap)?;
+    match intake.take_in(sheet.as_slice()) {
         Err(refusal) => print_refusal(&rt, refusal),
-        Ok(()) => print_account(&rt, &count_kinds(accepted.program.nodes().as_slice())),
+        Ok(()) => print_account(
+            &rt,
+            &count_kinds(intake.accepted.program.nodes().as_slice()),
+        ),
     }
 }
