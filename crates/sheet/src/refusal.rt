@@ -1,6 +1,7 @@
 //! Why a program sheet is refused, and where.
 ghost use mathlib.Core.Path.{_≡_};
-ghost use Rattle.sheet.specs.Refusal.{number};
+ghost use Rattle.sheet.specs.Refusal.{number, reason, told};
+ghost use Rattle.std.specs.declared.option.Option.the-variants.{Some};
 use std::fmt;
 
 /// The rule that a sheet breaks.
@@ -48,7 +49,9 @@ impl Rule {
 
 impl Rule {
     /// What is wrong with a sheet that breaks the rule.
-    fn reason(self) -> &'static str {
+    fn reason(self) -> &'static str
+        ensures { λ r. ⌜ now r ≡ reason self ⌝ }
+    {
         match self {
             Rule::Form => "the line does not follow the form of a sheet",
             Rule::Size =>
@@ -64,6 +67,8 @@ impl Rule {
 }
 
 pub impl fmt::Display for Refusal as RefusalDisplay {
+    ghost shown = { λ x. Some (told (x .rule) (x .line)) };
+
     fn fmt<W: fmt::Write>(&self, f: &mut fmt::Formatter<W>) -> fmt::Result {
         let line = self.line;
         let reason = self.rule.reason();
