@@ -1,11 +1,11 @@
 -- A sheet read line by line.
 use mathlib.Core.Path.{_≡_, refl, sym, _∙_, ap, subst}
 use mathlib.Core.List.{List, [], _∷_, _++_, append-assoc, append-nil}
-use Prim.Native.Nat.{ℕ, zero, suc, _+_, _≤_, _<_}
+use Prim.Native.Nat.{ℕ, suc, _+_, _≤_, _<_}
 use native.Mathlib.Omega.{arith}
 use lib.ListN.{length, length-append}
 use Rattle.sheet.specs.Entry.{Entry, written, Each, Proper}
-use Rattle.sheet.specs.Sheet.{text, times, line-ends, Sized, used, Earlier, Placed, Begins, Malformed, Misplaced, Unused, Says}
+use Rattle.sheet.specs.Sheet.{text, times, Sized, used, Earlier, Begins, Malformed, Misplaced, Unused, Says}
 use Rattle.sheet.specs.Split.{Cut, Step, Stop}
 use Rattle.sheet.specs.Uses.{Fits, Least-unused}
 use Rattle.sheet.proofs.Times.{times-append}

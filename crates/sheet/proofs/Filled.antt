@@ -1,8 +1,8 @@
 -- A table that a sheet's lines make is a program's.
 use mathlib.Core.Path.{_≡_, refl, sym, _∙_, ap, subst}
 use mathlib.Core.Bool.{true}
-use mathlib.Core.List.{List, [], _∷_}
-use Prim.Native.Nat.{ℕ, zero, suc, _+_, _≤_, _<_}
+use mathlib.Core.List.{List, []}
+use Prim.Native.Nat.{ℕ, _≤_, _<_}
 use native.Mathlib.Omega.{arith}
 use lib.ListN.{length, getD, length-append}
 use Rattle.terms.specs.Term.{Term, Terms, size, sizes}
@@ -12,7 +12,7 @@ use Rattle.terms.specs.declared.Node.{Node}
 use Rattle.terms.proofs.Forests.{length-flat, size-parts}
 use Rattle.terms.proofs.Parsing.{term-is, holds-term}
 use Rattle.terms.proofs.Shaping.{is-shaped}
-use Rattle.sheet.specs.Entry.{Entry, Each}
+use Rattle.sheet.specs.Entry.{Entry}
 use Rattle.sheet.specs.Sheet.{times, Begins}
 use Rattle.sheet.specs.Reading.{Writes, Write, line, no-parts, more-parts}
 use Rattle.sheet.specs.Tables.{Tabled}

@@ -1,16 +1,15 @@
 -- Marks on used lines, one part after another.
 use mathlib.Core.Path.{_≡_, refl, sym, _∙_, ap, subst}
 use mathlib.Core.Bool.{Bool, true, false}
-use mathlib.Core.Logic.{_⊎_, inl, inr}
-use mathlib.Core.List.{List, [], _∷_, _++_, append-assoc, append-nil}
-use Prim.Native.Nat.{ℕ, zero, suc, _+_, _-_, _≤_, _<_}
+use mathlib.Core.Logic.{inl, inr}
+use mathlib.Core.List.{List, [], _∷_, _++_, append-nil}
+use Prim.Native.Nat.{ℕ, _+_, _-_, _≤_, _<_}
 use native.Mathlib.Omega.{arith}
 use lib.Dec.{ltb}
 use lib.ListN.{length, getD, set, take, drop, length-append}
 use borrow.Author.Tests.{ltb-true, lt-ltb}
 use Rattle.std.proofs.shelf.Tests.{ltb-false, cases-eq, cases-lt}
 use Rattle.std.proofs.shelf.Lists.{getD-append-left, getD-append-right, getD-set-same, getD-set-other, length-set, take-append-drop, drop-more}
-use Rattle.sheet.specs.Entry.{Each}
 use Rattle.sheet.specs.Sheet.{times}
 use Rattle.sheet.specs.Uses.{Marks, Fits}
 use Rattle.sheet.proofs.Times.{mark-same, mark-other, times-append}

@@ -1,6 +1,6 @@
 -- Rows of terms, and the lengths of their tables.
 use mathlib.Core.Path.{_≡_, ap, sym, _∙_, refl}
-use mathlib.Core.List.{List, [], _∷_, _++_, append-assoc, append-nil}
+use mathlib.Core.List.{_∷_, _++_, append-assoc, append-nil}
 use Prim.Native.Nat.{_+_}
 use native.Mathlib.Omega.{arith}
 use lib.ListN.{length, length-append}

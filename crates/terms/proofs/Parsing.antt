@@ -1,9 +1,9 @@
 -- A table holds at most one tree.
 use mathlib.Core.Path.{_≡_, ap, sym, _∙_, refl}
-use mathlib.Core.List.{List, [], _∷_, _++_, append-assoc, append-nil}
+use mathlib.Core.List.{List, [], _++_, append-assoc, append-nil}
 use Rattle.terms.specs.Term.{Term, var, wire, bit, gate, new, bang, app, tuple, abs, Terms, none, part, count}
 use Rattle.terms.specs.Flat.{flat, flats}
-use Rattle.terms.specs.Parse.{firsts, lasts, build, parse, first, term, Holds-term, One-tree, Table-has-one-tree}
+use Rattle.terms.specs.Parse.{firsts, lasts, build, parse, first, term, Holds-term, Table-has-one-tree}
 use Rattle.terms.specs.declared.Node.{Node}
 use Rattle.terms.specs.declared.Kind.the-variants.{New, Bang, Application, Tuple, Binder}
 use Rattle.terms.proofs.Forests.{join}

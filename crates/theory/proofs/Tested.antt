@@ -7,10 +7,11 @@ use Prim.Native.Nat.{ℕ, zero, suc, _+_, _≤_, _<_}
 use native.Mathlib.Nat.{le-refl, zero-add, suc-add}
 use native.Mathlib.Omega.{arith}
 use Rattle.std.specs.Orderings.{Decides}
+use Rattle.std.proofs.shelf.Tests.{and-parts, and-from}
 use Rattle.std.proofs.shelf.Ways.{decides-and, decides-below-and}
 use Rattle.terms.specs.Term.{Term, var, wire, bit, gate, new, bang, app, tuple, abs, Terms, none, part}
 use Rattle.theory.specs.Acceptance.{equal, below, Item, slot, lead, same, Patterns, stands, stand, own-wires, Accepted, inner, weigh, weighs, one, uses, linear, arity, Bound, Fine, Fines, Bounded, Boundeds, Once, Onces, Clear, Clears, Apart, Proper, each, bound, is-fine, are-fine, single-in, singles-in, accepted, Accepted-is-proper, Accepted-is-tested}
-use Rattle.theory.proofs.Weigh.{and-both, equal-refl, equal-eq, at, cond-none, cond-one, below-lt, lt-below, weigh-same, weigh-zero}
+use Rattle.theory.proofs.Weigh.{equal-refl, equal-eq, at, cond-none, cond-one, below-lt, lt-below, weigh-same, weigh-zero}
 use Rattle.theory.proofs.Equivalence.{counted, fine, holds, pos, pos-one, one-le}
 
 -- The wires of a closed term.
@@ -158,17 +159,14 @@ mutual
   single-once whole (new t) k e = single-once whole t k e
   single-once whole (bang t) k e = single-once whole t k e
   single-once whole (app a b) k e =
-      let h = and-both _ _ e in sum-once _ _ _ (single-once whole a k (h .0)) (single-once whole b k (h .1))
+      let h = and-parts _ _ e in sum-once _ _ _ (single-once whole a k (h .0)) (single-once whole b k (h .1))
   single-once whole (tuple ts) k e = singles-once whole ts k e
   single-once whole (abs n t) k e = rw (weigh-same _ _ t (inner-lead k)) (single-once whole t k e)
 
   pub singles-once : (whole : Term) (ts : Terms) (k : ℕ) → singles-in whole ts ≡ true → (weighs (λ j. one (same (lead k) j)) ts ≡ 0) ⊎ (uses (lead k) whole ≡ 1)
   singles-once whole none k e = inl refl
   singles-once whole (part a b) k e =
-      let h = and-both _ _ e in sum-once _ _ _ (single-once whole a k (h .0)) (singles-once whole b k (h .1))
-
-pub both-and : (a b : Bool) → a ≡ true → b ≡ true → (a && b) ≡ true
-both-and a b p q = rw (p, q)
+      let h = and-parts _ _ e in sum-once _ _ _ (single-once whole a k (h .0)) (singles-once whole b k (h .1))
 
 mutual
   pub once-single : (whole t : Term) → Apart whole → ((k : ℕ) → uses (lead k) t ≤ uses (lead k) whole) → single-in whole t ≡ true
@@ -180,14 +178,14 @@ mutual
   once-single whole (new t) a h = once-single whole t a h
   once-single whole (bang t) a h = once-single whole t a h
   once-single whole (app f b) a h =
-      both-and _ _ (once-single whole f a (λ k. omega (arith, h k))) (once-single whole b a (λ k. omega (arith, h k)))
+      and-from _ _ (once-single whole f a (λ k. omega (arith, h k))) (once-single whole b a (λ k. omega (arith, h k)))
   once-single whole (tuple ts) a h = once-singles whole ts a h
   once-single whole (abs n t) a h = once-single whole t a (λ k. omega (arith, h k, weigh-same _ _ t (inner-lead k)))
 
   pub once-singles : (whole : Term) (ts : Terms) → Apart whole → ((k : ℕ) → weighs (λ j. one (same (lead k) j)) ts ≤ uses (lead k) whole) → singles-in whole ts ≡ true
   once-singles whole none a h = refl
   once-singles whole (part f b) a h =
-      both-and _ _ (once-single whole f a (λ k. omega (arith, h k))) (once-singles whole b a (λ k. omega (arith, h k)))
+      and-from _ _ (once-single whole f a (λ k. omega (arith, h k))) (once-singles whole b a (λ k. omega (arith, h k)))
 
 pub apart-once : (m : ℕ) → (m ≡ 0) ⊎ (m ≡ 1) → m ≤ 1
 apart-once m h = omega arith

@@ -1,6 +1,6 @@
 -- The laws of `weigh`.
 use mathlib.Core.Path.{_≡_, refl, sym, ap, _∙_, fun-ext}
-use mathlib.Core.Bool.{Bool, true, false, cond, _&&_}
+use mathlib.Core.Bool.{Bool, true, false, cond}
 use mathlib.Core.List.{_∷_}
 use Prim.Native.Nat.{ℕ, zero, suc, _+_, _*_, _≤_, _<_, zero-le, suc-le-suc}
 use native.Mathlib.Nat.{mul-add, mul-zero, le-refl}
@@ -22,20 +22,6 @@ equal-eq (suc m) (suc n) e = ap suc (equal-eq m n e)
 pub same-refl : (i : Item) → same i i ≡ true
 same-refl (slot u p) = rw (equal-refl u, equal-refl p)
 same-refl (lead k) = equal-refl k
-
-pub and-both : (a b : Bool) → (a && b) ≡ true → (a ≡ true) × (b ≡ true)
-and-both true b e = (refl, e)
-and-both false true e = (e, refl)
-and-both false false e = (e, e)
-
-pub same-eq : (i j : Item) → same i j ≡ true → i ≡ j
-same-eq (slot u p) (slot v q) e =
-    let h = and-both (equal u v) (equal p q) e in
-    let a = equal-eq u v (h .0) in
-    let b = equal-eq p q (h .1) in cc
-same-eq (slot u p) (lead k) e = let z : _≡_ {A = Bool} true false = cc in cc
-same-eq (lead k) (slot u p) e = let z : _≡_ {A = Bool} true false = cc in cc
-same-eq (lead k) (lead m) e = ap lead (equal-eq k m e)
 
 pub below-lt : (m n : ℕ) → below m n ≡ true → m < n
 below-lt m zero e = let z : _≡_ {A = ℕ} 0 1 = cc in omega arith
@@ -82,16 +68,6 @@ pub inner-le : (f g : Item → ℕ) → ((i : Item) → f i ≤ g i) → (i : It
 inner-le f g h (slot zero p) = le-refl _
 inner-le f g h (slot (suc u) p) = h (slot u p)
 inner-le f g h (lead k) = h (lead k)
-
-pub inner-same : (f g : Item → ℕ) → ((i : Item) → f i ≡ g i) → (i : Item) → inner f i ≡ inner g i
-inner-same f g h (slot zero p) = refl
-inner-same f g h (slot (suc u) p) = h (slot u p)
-inner-same f g h (lead k) = h (lead k)
-
-pub inner-slot : (u p : ℕ) (j : Item) → inner (λ i. one (same (slot u p) i)) j ≡ one (same (slot (suc u) p) j)
-inner-slot u p (slot zero q) = refl
-inner-slot u p (slot (suc v) q) = refl
-inner-slot u p (lead k) = refl
 
 pub weigh-same : (f g : Item → ℕ) (t : Term) → ((i : Item) → f i ≡ g i) → weigh f t ≡ weigh g t
 weigh-same f g t h = ap (λ k. weigh k t) (fun-ext h)

@@ -1,7 +1,7 @@
-use mathlib.Core.Path.{_≡_, sym, _∙_, ap}
+use mathlib.Core.Path.{sym, _∙_, ap}
 use mathlib.Core.List.{[], _∷_}
 use native.Mathlib.Omega.{arith}
-use Prim.Native.Nat.{ℕ, _+_}
+use Prim.Native.Nat.{ℕ}
 use lib.ListN.{getD, take}
 use Rattle.std.proofs.shelf.Lists.{take-more, take-all}
 use Rattle.sheet.specs.Sheet.{times}

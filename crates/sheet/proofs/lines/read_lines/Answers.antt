@@ -5,10 +5,10 @@ use mathlib.Core.List.{List, [], _∷_, _++_}
 use Prim.Native.Nat.{ℕ, _+_, _-_, _≤_, _<_}
 use native.Mathlib.Omega.{arith}
 use lib.ListN.{length, drop, take, length-append}
-use Rattle.std.specs.Of.Vec.{vec-items, vec-len}
+use Rattle.std.specs.Of.Vec.{vec-items}
 use Rattle.std.proofs.shelf.Lists.{length-map, map-append, length-drop, drop-all, take-all, take-append-le}
 use Rattle.sheet.specs.Entry.{Entry}
-use Rattle.sheet.specs.Sheet.{used, times, Begins, Placed}
+use Rattle.sheet.specs.Sheet.{used, times, Begins}
 use Rattle.sheet.specs.Split.{Step, Stop}
 use Rattle.sheet.specs.Entries.{entry, entries}
 use Rattle.sheet.specs.Uses.{Marks, Fits, Least-unused}

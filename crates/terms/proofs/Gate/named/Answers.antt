@@ -3,7 +3,6 @@ use Rattle.std.proofs.shelf.Equals.{matches-decides}
 use Rattle.std.proofs.shelf.Tests.{both-ways}
 use mathlib.Core.Path.{_≡_}
 use Rattle.terms.specs.Gate.{name}
-use Rattle.terms.specs.declared.Gate.{Gate}
 use Rattle.terms.specs.declared.Gate.the-variants.{H, X, Z, S, Sdg, T, Tdg, Cx, Cz, Swap, Ccx}
 use Rattle.terms.proofs.Gate.named.Needs as need
 
