@@ -196,7 +196,6 @@ list-stays list_stays
 lower-more lower_more
 lt-arity lt_arity
 lt-below lt_below
-lt-ltb lt_ltb
 made-binder made_binder
 made-constant made_constant
 made-variable made_variable

@@ -1,5 +1,7 @@
 //! How long reading and checking take. Without an argument only counts are printed; with the argument `times`, the
 //! nanoseconds of one reading and checking too.
+#![tactic(auto)]
+
 use intake::intake::Intake;
 use std::alloc::{AllocError, Global};
 use std::env;

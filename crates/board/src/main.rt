@@ -1,4 +1,6 @@
 //! The board: reads a program sheet from standard input, and prints what became of it.
+#![tactic(auto)]
+
 use account::{Account, count_kinds};
 use intake::intake::Intake;
 use sheet::refusal::Refusal;

@@ -1,5 +1,5 @@
 -- No fault at any node: the properties of an accepted term.
-use Rattle.std.proofs.Common.{◌≡◌, ℕ, zero, suc, ◌+◌, ◌<◌, ◌≤◌, Bool, true, false, cond, ltb, [], ◌∷◌, sym, refl, ap, ◌∙◌, inl, inr, zero-le, le_refl, arith, le-ltb, lt_ltb}
+use Rattle.std.proofs.Common.{◌≡◌, ℕ, zero, suc, ◌+◌, ◌<◌, ◌≤◌, Bool, true, false, cond, ltb, [], ◌∷◌, sym, refl, ap, ◌∙◌, inl, inr, zero-le, le_refl, arith, le-ltb, lt-ltb}
 use borrow.Author.Tests.{clash}
 use Rattle.std.proofs.lemmas.Bool.{cases_Bool, cases_eq}
 use Rattle.terms.specs.Term.{Term, var, wire, bit, gate, new, bang, app, tuple, abs, Terms, none, part, size}
@@ -106,12 +106,12 @@ shallow_more (f ∷ G) b h = (omega (arith, h.0), shallow_more G b h.1)
 
 linear-slot : (G : Scope) (b u p : ℕ) → Shallow G b → one (shut_site (resolve G (b + 1) u p)) ≡ one (below p (pattern (patterns G) u))
 linear-slot [] b u p h = refl
-linear-slot (f ∷ G) b zero p h = let l : f.depth < b + 1 = omega (arith, h.0) in rw (lt_ltb f.depth (b + 1) l, below_ltb p f.pattern) refl
+linear-slot (f ∷ G) b zero p h = let l : f.depth < b + 1 = omega (arith, h.0) in rw (lt-ltb f.depth (b + 1) l, below_ltb p f.pattern) refl
 linear-slot (f ∷ G) b (suc u) p h = linear-slot G b u p h.1
 
 strained-linear : (G : Scope) (b : ℕ) → Shallow G b → (i : Item) → strained G (b + 1) i ≡ linear (patterns G) i
 strained-linear G b h (slot u p) = linear-slot G b u p h
-strained-linear G b h (lead k) = let l : 0 < b + 1 = omega arith in rw (lt_ltb 0 (b + 1) l) refl
+strained-linear G b h (lead k) = let l : 0 < b + 1 = omega arith in rw (lt-ltb 0 (b + 1) l) refl
 
 one_cond : (x y z : Bool) → (x ≡ true → y ≡ true) → one (cond x z false) ≤ one (cond y z false)
 one_cond true true z h = le_refl _
@@ -121,7 +121,7 @@ one_cond false false z h = le_refl _
 
 more_slot : (G : Scope) (b u p : ℕ) → Shallow G b → one (shut_site (resolve G b u p)) ≤ one (shut_site (resolve G (b + 1) u p))
 more_slot [] b u p h = le_refl _
-more_slot (f ∷ G) b zero p h = let l : f.depth < b + 1 = omega (arith, h.0) in one_cond (ltb f.depth b) (ltb f.depth (b + 1)) (ltb p f.pattern) (λ _. lt_ltb f.depth (b + 1) l)
+more_slot (f ∷ G) b zero p h = let l : f.depth < b + 1 = omega (arith, h.0) in one_cond (ltb f.depth b) (ltb f.depth (b + 1)) (ltb p f.pattern) (λ _. lt-ltb f.depth (b + 1) l)
 more_slot (f ∷ G) b (suc u) p h = more_slot G b u p h.1
 
 pub one_top : (x : Bool) → one x ≤ 1
@@ -130,7 +130,7 @@ one_top false = zero-le
 
 strained_more : (G : Scope) (b : ℕ) → Shallow G b → (i : Item) → strained G b i ≤ strained G (b + 1) i
 strained_more G b h (slot u p) = more_slot G b u p h
-strained_more G b h (lead k) = let l : 0 < b + 1 = omega arith in rw (lt_ltb 0 (b + 1) l) (one_top (ltb 0 b))
+strained_more G b h (lead k) = let l : 0 < b + 1 = omega arith in rw (lt-ltb 0 (b + 1) l) (one_top (ltb 0 b))
 
 strained-inner : (G : Scope) (b m k : ℕ) (i : Item) → strained (frame m k b ∷ G) b i ≡ inner (strained G b) i
 strained-inner G b m k (slot zero p) = let l : b ≤ b = omega arith in rw (le-ltb b b l) refl
@@ -198,4 +198,4 @@ clear_none t k n (shut_variable {H = H} {c = c} {u = u} {p = p} a h d) =
     omega (arith, w, ap one (shut_resolve H c u p h d))
 clear_none t k n (shut_wire {c = c} a h) =
     let w = at_clear a tt k (weigh_same _ _ t top ∙ weigh-zero t) in
-    omega (arith, w, ap one (lt_ltb 0 c h))
+    omega (arith, w, ap one (lt-ltb 0 c h))

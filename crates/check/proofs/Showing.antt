@@ -1,5 +1,5 @@
 -- The sites show the faults of variables, and of what stands in a bang.
-use Rattle.std.proofs.Common.{◌≡◌, ℕ, zero, suc, ◌<◌, Bool, true, false, cond, [], ◌∷◌, get_or, sym, refl, ap, ◌∙◌, inl, inr, zero-le, arith, ltb-true, lt_ltb, le-leb, leb-true}
+use Rattle.std.proofs.Common.{◌≡◌, ℕ, zero, suc, ◌<◌, Bool, true, false, cond, [], ◌∷◌, get_or, sym, refl, ap, ◌∙◌, inl, inr, zero-le, arith, ltb-true, lt-ltb, le-leb, leb-true}
 use native.Mathlib.Nat.{sub-zero}
 use borrow.Author.Tests.{clash}
 use Rattle.std.proofs.lemmas.Bool.{cases_lt}
@@ -61,7 +61,7 @@ unbound-shown t = record { low = unbound-low t; to = unbound-to t; from = unboun
 -- What stands in a bang.
 pub shut_resolve : (H : Scope) (c u p : ℕ) → p < pattern (patterns H) u → Deeper H u c → shut_site (resolve H c u p) ≡ true
 shut_resolve [] c u p h k = absurd k
-shut_resolve (f ∷ H) c zero p h k = rw (lt_ltb f.depth c k) (lt_ltb p f.pattern h)
+shut_resolve (f ∷ H) c zero p h k = rw (lt-ltb f.depth c k) (lt-ltb p f.pattern h)
 shut_resolve (f ∷ H) c (suc u) p h k = shut_resolve H c u p h k
 
 cond_both : (x y : Bool) → cond x y false ≡ true → (x ≡ true) × (y ≡ true)
@@ -90,7 +90,7 @@ shut_low t n (shut_wire a h) = within-size t n _ _ _ a
 
 shut_to : (t : Term) (n : ℕ) → Shut t n → ShutSite (sites [] 0 0 t) n
 shut_to t n (shut_variable {H = H} {c = c} {u = u} {p = p} a h k) = ap shut_site (site_is t n H c (var u p) a) ∙ shut_resolve H c u p h k
-shut_to t n (shut_wire {H = H} {c = c} {w = w} a h) = ap shut_site (site_is t n H c (wire w) a) ∙ lt_ltb 0 c h
+shut_to t n (shut_wire {H = H} {c = c} {w = w} a h) = ap shut_site (site_is t n H c (wire w) a) ∙ lt-ltb 0 c h
 
 shut_from : (t : Term) (n : ℕ) → n < size t → ShutSite (sites [] 0 0 t) n → Shut t n
 shut_from t n lo e =

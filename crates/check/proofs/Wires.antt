@@ -1,5 +1,5 @@
 -- The smallest line of each wire.
-use Rattle.std.proofs.Common.{◌≡◌, ℕ, ◌+◌, ◌<◌, ◌≤◌, Bool, true, false, cond, eqb, ltb, ◌≢◌, ◌⊎◌, List, [], length, get_or, set, Some, None, Option, refl, ap, ◌∙◌, inl, inr, zero-le, le_refl, arith, length-set, ltb-false, ltb-true, lt_ltb, eq-eqb, ne_eqb, eqb-true}
+use Rattle.std.proofs.Common.{◌≡◌, ℕ, ◌+◌, ◌<◌, ◌≤◌, Bool, true, false, cond, eqb, ltb, ◌≢◌, ◌⊎◌, List, [], length, get_or, set, Some, None, Option, refl, ap, ◌∙◌, inl, inr, zero-le, le_refl, arith, length-set, ltb-false, ltb-true, lt-ltb, eq-eqb, ne_eqb, eqb-true}
 use borrow.Author.Tests.{clash}
 use Rattle.std.proofs.lemmas.List.{get_or-set_same, get_or-set_other}
 use Rattle.std.proofs.lemmas.Bool.{cases_eq}
@@ -95,7 +95,7 @@ repeat_later xs lines F n Free e f r = absurd (omega (arith, r.here, ap (is_lead
 repeat_later xs lines F n (Use m j p y) e f r = absurd (omega (arith, r.here, ap (is_lead r.wire) e))
 repeat_later xs lines F n (Lead v y) e f r =
     let z : r.wire ≡ v = eqb-true r.wire v (one_is (eqb r.wire v) (omega (arith, r.here, ap (is_lead r.wire) e))) in
-    lt_ltb (get_or F v 0) (get_or lines n 0) (omega (arith, f.least r.other r.wire r.low r.there, r.less, ap (λ (w : ℕ). get_or F w 0) z))
+    lt-ltb (get_or F v 0) (get_or lines n 0) (omega (arith, f.least r.other r.wire r.low r.there, r.less, ap (λ (w : ℕ). get_or F w 0) z))
 repeat_later xs lines F n (Opening j) e f r = absurd (omega (arith, r.here, ap (is_lead r.wire) e))
 
 pub found_same : (P Q : ℕ → Type 0) (lines : List ℕ) (k : ℕ) (r : Option ℕ) → ((n : ℕ) → P n → Q n) → ((n : ℕ) → Q n → P n) → Found P lines k r → Found Q lines k r

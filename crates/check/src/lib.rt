@@ -1,4 +1,6 @@
 //! Checking a program against the rules of derivation.
+#![tactic(auto)]
+
 ghost use Rattle.std.specs.Prelude.{IfOk};
 ghost use Rattle.sheet.specs.Reading.{HoldsZero};
 ghost use Rattle.check.specs.Verdict.{Decided, Checked, VerdictIsDetermined};

@@ -1,5 +1,5 @@
 -- Words of 64 bits as sets of wires.
-use Rattle.std.proofs.Common.{◌≡◌, ℕ, zero, suc, ◌+◌, ◌-◌, ◌*◌, ◌/◌, ◌%◌, ◌^◌, ◌<◌, ◌≤◌, Bool, true, false, cond, ◌&&◌, ◌||◌, eqb, ltb, ◌⊎◌, sym, refl, ap, ◌∙◌, inl, inr, ⊎_elim, add-zero, mod-eq_of_lt, add-mul, one-mul, pow-suc, one-add, arith, lit<, lit≤, pow_mono, le-ltb, lt_ltb, eq-eqb, ne_eqb, eqb-true}
+use Rattle.std.proofs.Common.{◌≡◌, ℕ, zero, suc, ◌+◌, ◌-◌, ◌*◌, ◌/◌, ◌%◌, ◌^◌, ◌<◌, ◌≤◌, Bool, true, false, cond, ◌&&◌, ◌||◌, eqb, ltb, ◌⊎◌, sym, refl, ap, ◌∙◌, inl, inr, ⊎_elim, add-zero, mod-eq_of_lt, add-mul, one-mul, pow-suc, one-add, arith, lit<, lit≤, pow_mono, le-ltb, lt-ltb, eq-eqb, ne_eqb, eqb-true}
 use mathlib.Core.Path.{fun_ext}
 use native.Mathlib.Nat.{mul-mod_left, div-eq_of_lt}
 use lib.Bits.{bit_or, or_shr, or_mod}
@@ -39,7 +39,7 @@ counted_ones m (suc n) =
     omega (arith, c, bit-number m n, ones_digit d (digit (m / 2 ^ n)), counted_ones m n)
 
 in-word : (m v : ℕ) → v < 64 → in_mask m v ≡ bit_at m v
-in-word m v h = ap (λ b. b && bit_at m v) (lt_ltb v 64 h)
+in-word m v h = ap (λ b. b && bit_at m v) (lt-ltb v 64 h)
 
 -- The wires of a mask are as many as it has ones.
 pub counted_mask : (m : ℕ) → m < 2 ^ 64 → counted (in_mask m) 4096 ≡ ones m
@@ -87,7 +87,7 @@ swapped false false x h = refl
 -- The mask with one wire more.
 pub mask_with : (m j : ℕ) → j < 64 → in_mask (bit_or m (2 ^ j)) ≡ with_wire j (in_mask m)
 mask_with m j h =
-    fun_ext (λ v. ap (λ b. ltb v 64 && b) (bit_or_lem m j v) ∙ swapped (ltb v 64) (eqb v j) (bit_at m v) (λ e. lt_ltb v 64 (omega (arith, eqb-true v j e))))
+    fun_ext (λ v. ap (λ b. ltb v 64 && b) (bit_or_lem m j v) ∙ swapped (ltb v 64) (eqb v j) (bit_at m v) (λ e. lt-ltb v 64 (omega (arith, eqb-true v j e))))
 
 -- A word of 64 bits, cut above bit v.
 word : (v : ℕ) → v < 64 → (2 ^ (63 - v) - 1) * 2 * 2 ^ v + 2 * 2 ^ v ≡ 18446744073709551616

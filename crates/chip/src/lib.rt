@@ -1,4 +1,6 @@
 //! The chip machine.
+#![tactic(auto)]
+
 ghost use Rattle.std.specs.Prelude.{◌≡◌, length, slice_index};
 ghost use Rattle.std.specs.Option.{option_map};
 ghost use Rattle.terms.specs.Gate.{width};

@@ -1,4 +1,5 @@
 //! Machines and tariffs at their limits, as tables of tests.
+#![tactic(auto)]
 
 #[cfg(test)]
 mod charges;

@@ -1,4 +1,6 @@
 //! Code over any machine and any tariff: what it can promise from the interfaces alone.
+#![tactic(auto)]
+
 ghost use Rattle.std.specs.Prelude.{◌≡◌, map, length, take, drop};
 ghost use Rattle.std.specs.List.{range_with_len};
 ghost use Rattle.machines.specs.Machine.{Meaning};

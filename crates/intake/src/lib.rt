@@ -1,4 +1,6 @@
 //! From a program sheet to an accepted program: reading and checking in one call.
+#![tactic(auto)]
+
 ghost use Rattle.std.specs.Prelude.{IfOk};
 ghost use Rattle.sheet.specs.Reading.{HoldsZero};
 ghost use Rattle.intake.specs.Verdict.{TakesIn};

@@ -1,4 +1,6 @@
 //! Only a program that was checked gets into the lawful place.
+#![tactic(auto)]
+
 use anyhow::anyhow;
 use check::accepted::AcceptedProgram;
 use check::check;

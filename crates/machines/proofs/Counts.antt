@@ -1,5 +1,5 @@
 -- How many numbers are in a set.
-use Rattle.std.proofs.Common.{◌≡◌, ℕ, zero, suc, ◌+◌, ◌<◌, ◌≤◌, Bool, true, false, cond, ltb, refl, ap, ◌∙◌, ⊎_elim, arith, le-ltb, lt_ltb}
+use Rattle.std.proofs.Common.{◌≡◌, ℕ, zero, suc, ◌+◌, ◌<◌, ◌≤◌, Bool, true, false, cond, ltb, refl, ap, ◌∙◌, ⊎_elim, arith, le-ltb, lt-ltb}
 use Rattle.std.proofs.lemmas.Bool.{cases_lt}
 use Rattle.machines.specs.Machine.{counted}
 
@@ -36,4 +36,4 @@ counted_all s (suc n) all = omega (arith, counted_in_lem s n (all n (omega arith
 -- The numbers below k, counted below n.
 pub counted-below : (k n : ℕ) → k ≤ n → counted (λ v. ltb v k) n ≡ k
 counted-below k n h =
-    counted-past (λ v. ltb v k) k n h (λ v l. le-ltb v k l) ∙ counted_all (λ v. ltb v k) k (λ v l. lt_ltb v k l)
+    counted-past (λ v. ltb v k) k n h (λ v l. le-ltb v k l) ∙ counted_all (λ v. ltb v k) k (λ v l. lt-ltb v k l)

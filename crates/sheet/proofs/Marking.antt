@@ -1,5 +1,5 @@
 -- Marks on used lines, one part after another.
-use Rattle.std.proofs.Common.{◌≡◌, ℕ, ◌+◌, ◌-◌, ◌<◌, ◌≤◌, Bool, true, false, ltb, List, [], ◌∷◌, ◌++◌, length, get_or, take, drop, set, sym, refl, ap, ◌∙◌, subst, inl, inr, append-nil, arith, length-append, ltb-true, lt_ltb}
+use Rattle.std.proofs.Common.{◌≡◌, ℕ, ◌+◌, ◌-◌, ◌<◌, ◌≤◌, Bool, true, false, ltb, List, [], ◌∷◌, ◌++◌, length, get_or, take, drop, set, sym, refl, ap, ◌∙◌, subst, inl, inr, append-nil, arith, length-append, ltb-true, lt-ltb}
 use Rattle.std.proofs.lemmas.Bool.{ltb-false, cases_eq, cases_lt}
 use Rattle.std.proofs.lemmas.List.{get_or_append_left, get_or-append_right, get_or-set_same, get_or-set_other, length-set, take-append-drop, drop_more}
 use Rattle.sheet.specs.Sheet.{times}
@@ -34,7 +34,7 @@ marks_more us ws p m q l =
     elim (cases_eq q p) [
       | inl e ↦
           let k : p < length us = omega arith in
-          ap (λ i. get_or (set us p true) i false) e ∙ get_or-set_same us p true false k ∙ sym (lt_ltb 0 (times q (ws ++ (p ∷ []))) (omega (arith, times-append q ws (p ∷ []), mark_same q p e)))
+          ap (λ i. get_or (set us p true) i false) e ∙ get_or-set_same us p true false k ∙ sym (lt-ltb 0 (times q (ws ++ (p ∷ []))) (omega (arith, times-append q ws (p ∷ []), mark_same q p e)))
       | inr e ↦
           get_or-set_other us p q true false e ∙ m q (omega arith) ∙ ap (λ i. ltb 0 i) (omega (arith, times-append q ws (p ∷ []), mark_other q p e))
     ]

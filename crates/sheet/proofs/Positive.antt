@@ -1,6 +1,6 @@
 -- Each number of a list is at least 1, as a test.
 use Rattle.std.proofs.Common.{◌≡◌, ℕ, zero, suc, ◌+◌, ◌<◌, ◌≤◌, true, false, ltb, List, [], ◌∷◌, ◌++◌, length, get_or, take, sym, refl, ◌∙◌, arith}
-use Rattle.std.proofs.lemmas.Bool.{le-ltb, lt_ltb, and_right, and_parts, and_from}
+use Rattle.std.proofs.lemmas.Bool.{le-ltb, lt-ltb, and_right, and_parts, and_from}
 use Rattle.std.proofs.lemmas.List.{length-take-le, take_more, get_or-take}
 use Rattle.sheet.specs.Entries.{listed}
 use Rattle.sheet.specs.Fields.{positive}
@@ -12,7 +12,7 @@ zero_among (n ∷ ns) zero l e = rw (le-ltb 0 n (omega arith)) refl
 zero_among (n ∷ ns) (suc i) l e = sym (and_right (ltb 0 n) (positive ns) (sym (zero_among ns i (omega arith) e)))
 
 positive_push : (ns : List ℕ) (n : ℕ) → positive ns ≡ true → 0 < n → positive (ns ++ (n ∷ [])) ≡ true
-positive_push [] n h l = rw (lt_ltb 0 n l) refl
+positive_push [] n h l = rw (lt-ltb 0 n l) refl
 positive_push (m ∷ ns) n h l = let p = and_parts (ltb 0 m) (positive ns) h in and_from _ _ p.0 (positive_push ns n p.1 l)
 
 pub positive_more : (xs : List ℕ) (i : ℕ) → i < length xs → positive (take i xs) ≡ true → 0 < get_or xs i 0 → positive (take (i + 1) xs) ≡ true

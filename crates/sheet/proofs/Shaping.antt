@@ -1,6 +1,6 @@
 -- A letter and numbers make an entry exactly if they are what it is written with.
 use Rattle.std.proofs.Common.{◌≡◌, ℕ, ◌≤◌, Bool, true, false, cond, ◌&&◌, eqb, ltb, leb, List, [], ◌∷◌, ◌++◌, map, length, get_or, Some, decimal, Option, sym, refl, ap, ◌∙◌, subst, arith}
-use Rattle.std.proofs.lemmas.Bool.{leb-true, ltb-true, eqb-true, eqb-false, le-leb, lt_ltb, eq-eqb, and_parts, and_from, cond_both}
+use Rattle.std.proofs.lemmas.Bool.{leb-true, ltb-true, eqb-true, eqb-false, le-leb, lt-ltb, eq-eqb, and_parts, and_from, cond_both}
 use Rattle.std.proofs.lemmas.List.{nil_from_length}
 use Rattle.terms.specs.Flat.{kind_parts, wire_of}
 use Rattle.terms.specs.declared.Kind.{Kind}
@@ -70,7 +70,7 @@ numeric (Binder m) ps n h = record { fields = refl; range = (omega (arith, h.own
 
 positive-from : (ps : List ℕ) → Each (λ p. (1 ≤ p) × (p ≤ 4096)) ps → positive ps ≡ true
 positive-from [] r = refl
-positive-from (p ∷ ps) r = and_from _ _ (lt_ltb 0 p r.0.0) (positive-from ps r.1)
+positive-from (p ∷ ps) r = and_from _ _ (lt-ltb 0 p r.0.0) (positive-from ps r.1)
 
 positive-to : (ps : List ℕ) → positive ps ≡ true → Each (λ p. p ≤ 4096) ps → Each (λ p. (1 ≤ p) × (p ≤ 4096)) ps
 positive-to [] h r = tt
@@ -91,7 +91,7 @@ complete Bang ps n h = all_parts Bang ps _ (eq-eqb _ _ h.part_count) h
 complete Application ps n h = all_parts Application ps _ (eq-eqb _ _ h.part_count) h
 complete (Tuple m) ps n h = rw (le-leb 2 (length ps) (omega (arith, h.part_count, h.own_range.0)), positive-from ps h.part_range) (ap (λ x. Some (Tuple x, ps)) h.part_count)
 complete (Binder m) [] n h = absurd (omega (arith, h.part_count))
-complete (Binder m) (p ∷ []) n h = rw (le-leb m 8 h.own_range, lt_ltb 0 p h.part_range.0.0) refl
+complete (Binder m) (p ∷ []) n h = rw (le-leb m 8 h.own_range, lt-ltb 0 p h.part_range.0.0) refl
 complete (Binder m) (p ∷ q ∷ ps) n h = absurd (omega (arith, h.part_count))
 
 -- What is made is written with the letter and the numbers.

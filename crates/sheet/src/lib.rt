@@ -1,4 +1,6 @@
 //! Reading a program sheet.
+#![tactic(auto)]
+
 ghost use Rattle.std.specs.Prelude.{◌≡◌, IfOk};
 ghost use Rattle.sheet.specs.Reading.{HoldsZero, Reads, ReadingIsDetermined};
 

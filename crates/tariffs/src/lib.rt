@@ -1,4 +1,6 @@
 //! Tariffs: what the steps of a run cost, and how costs are joined.
+#![tactic(auto)]
+
 ghost use Rattle.std.specs.Prelude.{◌≡◌};
 ghost use Rattle.tariffs.specs.Tariff.{Prices, Fair};
 

@@ -1,5 +1,5 @@
 -- The test of the ranges is exact.
-use Rattle.std.proofs.Common.{◌≡◌, true, ◌&&◌, ltb, leb, refl, ltb-true, lt_ltb, le-leb, leb-true}
+use Rattle.std.proofs.Common.{◌≡◌, true, ◌&&◌, ltb, leb, refl, ltb-true, lt-ltb, le-leb, leb-true}
 use Rattle.std.proofs.lemmas.Bool.{and_parts, and_from}
 use Rattle.terms.specs.Term.{Term, var, wire, bit, gate, new, bang, app, tuple, abs, Terms, none, part, count}
 use Rattle.terms.specs.Shape.{Shaped, Shapeds, shaped, shapeds}
@@ -25,8 +25,8 @@ mutual
 
 mutual
   pub is_shaped : (t : Term) → Shaped t → shaped t ≡ true
-  is_shaped (var u p) h = and_from (ltb u 4096) (ltb p 8) (lt_ltb u 4096 h.0) (lt_ltb p 8 h.1)
-  is_shaped (wire w) h = lt_ltb w 4096 h
+  is_shaped (var u p) h = and_from (ltb u 4096) (ltb p 8) (lt-ltb u 4096 h.0) (lt-ltb p 8 h.1)
+  is_shaped (wire w) h = lt-ltb w 4096 h
   is_shaped (bit c) h = refl
   is_shaped (gate g) h = refl
   is_shaped (new t) h = is_shaped t h

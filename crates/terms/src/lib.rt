@@ -1,4 +1,6 @@
 //! Terms of the calculus: gates, wires, nodes, and the table of nodes in which a term is stored.
+#![tactic(auto)]
+
 ghost use Rattle.std.specs.Prelude.{◌≡◌, ◌<◌, ◌≤◌, MatchOption};
 ghost use Rattle.terms.specs.Gate.{code, width, Named};
 ghost use Rattle.terms.specs.Flat.{part_count};
@@ -55,37 +57,37 @@ impl Gate {
     pub fn named(bytes: &[u8]) -> Option<Gate>
         ensures { Named bytes.now result }
     {
-        if bytes == b"H" {
+        if bytes == b"H".as_slice() {
             return Some(Gate::H);
         }
-        if bytes == b"X" {
+        if bytes == b"X".as_slice() {
             return Some(Gate::X);
         }
-        if bytes == b"Z" {
+        if bytes == b"Z".as_slice() {
             return Some(Gate::Z);
         }
-        if bytes == b"S" {
+        if bytes == b"S".as_slice() {
             return Some(Gate::S);
         }
-        if bytes == b"SDG" {
+        if bytes == b"SDG".as_slice() {
             return Some(Gate::Sdg);
         }
-        if bytes == b"T" {
+        if bytes == b"T".as_slice() {
             return Some(Gate::T);
         }
-        if bytes == b"TDG" {
+        if bytes == b"TDG".as_slice() {
             return Some(Gate::Tdg);
         }
-        if bytes == b"CX" {
+        if bytes == b"CX".as_slice() {
             return Some(Gate::Cx);
         }
-        if bytes == b"CZ" {
+        if bytes == b"CZ".as_slice() {
             return Some(Gate::Cz);
         }
-        if bytes == b"SWAP" {
+        if bytes == b"SWAP".as_slice() {
             return Some(Gate::Swap);
         }
-        if bytes == b"CCX" {
+        if bytes == b"CCX".as_slice() {
             return Some(Gate::Ccx);
         }
         None

@@ -1,4 +1,6 @@
 //! Which terms the rules of derivation accept, and the theorems about them.
+#![tactic(auto)]
+
 ghost use Rattle.theory.specs.Acceptance.{AcceptedIsProper, AcceptedIsTested, NeedsDetermined};
 
 /// The rules derive exactly the terms with the four properties (each variable is bound, each linear variable is used

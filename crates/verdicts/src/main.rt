@@ -1,4 +1,6 @@
 //! The verdicts on many sheets. Standard input has the sheets, each ended by `=`; a line is printed for each.
+#![tactic(auto)]
+
 use intake::intake::Intake;
 use std::io::Read;
 
