@@ -5,7 +5,7 @@ use Rattle.terms.specs.Gate.{name, Named}
 use Rattle.terms.specs.declared.Gate.{Gate}
 use Rattle.terms.specs.declared.Kind.{Kind}
 use Rattle.terms.specs.declared.Kind.TheVariants.{Variable, Wire, Constant, Gate as GateNode, New, Bang, Application, Tuple, Binder}
-use Rattle.sheet.specs.Entry.{Entry, letter, own, tabbed, written, Each, Proper}
+use Rattle.sheet.specs.Entry.{Entry, own, tabbed, written, Each, Proper}
 use Rattle.sheet.specs.Entries.{listed, entry, Parsed, Parses}
 use Rattle.sheet.specs.Fields.{Fields, Collects, shape, Shapes}
 use Rattle.sheet.specs.declared.line.Numbers.{Numbers}

@@ -1,5 +1,5 @@
 -- The term that the lines of a sheet write, and what reading answers.
-use Rattle.std.specs.Prelude.{◌≡◌, ℕ, suc, ◌+◌, false, ◌⊎◌, List, [], ◌∷◌, ◌++◌, length, Ok, Err, vec_items, Result}
+use Rattle.std.specs.Prelude.{◌≡◌, ℕ, suc, false, ◌⊎◌, List, [], ◌∷◌, ◌++◌, length, Ok, Err, vec_items, Result}
 use Rattle.terms.specs.Term.{Term, bit, Terms, none, part}
 use Rattle.terms.specs.Flat.{kind_of, parts}
 use Rattle.terms.specs.Parse.{term}

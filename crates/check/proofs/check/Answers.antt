@@ -4,5 +4,5 @@ use Rattle.sheet.specs.Reading.{term_of}
 use Rattle.sheet.specs.declared.program.Program.{Program}
 use Rattle.check.proofs.check.Goals as goal
 
-pub invariant-of-place : goal.invariant-of-place
-invariant-of-place c = (∣ subst (λ (p : Program). Accepted (term_of p)) (sym c.swap.ensures.y-after) c.in-ok-verdict.ensures ∣₁, tt)
+pub invariant_of-place : goal.invariant_of-place
+invariant_of-place c = (∣ subst (λ (p : Program). Accepted (term_of p)) (sym c.swap.ensures.y-after) c.in_ok-verdict.ensures ∣₁, tt)

@@ -4,8 +4,8 @@ use Rattle.board.specs.Account.{tally}
 use Rattle.board.proofs.Counting.{tally-few, index-low, one_more}
 use Rattle.board.proofs.account.count_kinds.Goals as goal
 
-pub overflow-add-counts : goal.overflow-add-counts
-overflow-add-counts c =
+pub overflow_add-counts : goal.overflow_add-counts
+overflow_add-counts c =
     let i : ℕ = c.loop-node.node-index in
     let q : c.index.result < 9 = subst (λ (m : ℕ). m < 9) (sym c.index.ensures) (index-low _) in
     omega (arith, c.loop-node.invariant.1 c.index.result q, tally-few c.index.result (take i c.args.nodes.now), length-take-le i c.args.nodes.now (omega arith), c.loop-node-test.true, c.args.nodes)

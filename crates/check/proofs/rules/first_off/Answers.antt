@@ -6,9 +6,9 @@ use Rattle.check.proofs.rules.first_off.Goals as goal
 
 pub loop-i-preserved : goal.loop-i-preserved
 loop-i-preserved c =
-    let f = found_more (MisuseSite c.args.sites.now) c.args.lines.now c.loop-i.i c.loop-i.best c.is-misused.result c.loop-i.invariant
-    (test_yes c.args.sites.now c.args.counts.now c.loop-i.i c.loop-i-test.true c.requires.room (c.requires.ranged c.loop-i.i) c.requires.counted c.is-misused.result c.is-misused.ensures)
-    (test_no c.args.sites.now c.args.counts.now c.loop-i.i c.loop-i-test.true c.requires.room (c.requires.ranged c.loop-i.i) c.requires.counted c.is-misused.result c.is-misused.ensures) in
+    let f = found_more (MisuseSite c.args.sites.now) c.args.lines.now c.loop-i.i c.loop-i.best c.is_misused.result c.loop-i.invariant
+    (test_yes c.args.sites.now c.args.counts.now c.loop-i.i c.loop-i-test.true c.requires.room (c.requires.ranged c.loop-i.i) c.requires.counted c.is_misused.result c.is_misused.ensures)
+    (test_no c.args.sites.now c.args.counts.now c.loop-i.i c.loop-i-test.true c.requires.room (c.requires.ranged c.loop-i.i) c.requires.counted c.is_misused.result c.is_misused.ensures) in
     subst (λ (o : Option ℕ). Found (MisuseSite c.args.sites.now) c.args.lines.now (c.loop-i.i + 1) o) (sym c.earlier-best.ensures) f
 
 pub returns : goal.returns

@@ -4,20 +4,20 @@ use Rattle.check.specs.Loops.{LaterSite, RepeatSite}
 use Rattle.check.proofs.Wires.{later_repeats, repeat_later, found_same, wiped_start}
 use Rattle.check.proofs.rules.first_repeated.Goals as goal
 
-pub wipe-wires-requires : goal.wipe-wires-requires
-wipe-wires-requires c = record {
-  room = omega (arith, c.note-wires.auto.firsts, c.requires.room);
+pub wipe_wires-requires : goal.wipe_wires-requires
+wipe_wires-requires c = record {
+  room = omega (arith, c.note_wires.auto.firsts, c.requires.room);
   ranged = c.requires.ranged;
-  stood = wiped_start c.args.sites.now c.args.lines.now c.note-wires.new.firsts c.note-wires.ensures;
+  stood = wiped_start c.args.sites.now c.args.lines.now c.note_wires.new.firsts c.note_wires.ensures;
 }
 
 pub returns : goal.returns
 returns c =
-    let l : 4096 ≤ length c.note-wires.new.firsts = omega (arith, c.note-wires.auto.firsts, c.requires.room) in
+    let l : 4096 ≤ length c.note_wires.new.firsts = omega (arith, c.note_wires.auto.firsts, c.requires.room) in
     record {
-      found = found_same (LaterSite c.note-wires.new.firsts c.args.sites.now c.args.lines.now) (RepeatSite c.args.sites.now c.args.lines.now) c.args.lines.now (length c.args.sites.now) c.first-later-best.result
-          (λ n q. later_repeats c.args.sites.now c.args.lines.now c.note-wires.new.firsts n (get_or c.args.sites.now n Other) refl l (c.requires.ranged n) (c.requires.few n) c.note-wires.ensures q)
-          (λ n q. repeat_later c.args.sites.now c.args.lines.now c.note-wires.new.firsts n (get_or c.args.sites.now n Other) refl c.note-wires.ensures q)
-          c.first-later-best.ensures;
-      blank = c.wipe-wires.ensures;
+      found = found_same (LaterSite c.note_wires.new.firsts c.args.sites.now c.args.lines.now) (RepeatSite c.args.sites.now c.args.lines.now) c.args.lines.now (length c.args.sites.now) c.first_later-best.result
+          (λ n q. later_repeats c.args.sites.now c.args.lines.now c.note_wires.new.firsts n (get_or c.args.sites.now n Other) refl l (c.requires.ranged n) (c.requires.few n) c.note_wires.ensures q)
+          (λ n q. repeat_later c.args.sites.now c.args.lines.now c.note_wires.new.firsts n (get_or c.args.sites.now n Other) refl c.note_wires.ensures q)
+          c.first_later-best.ensures;
+      blank = c.wipe_wires.ensures;
     }

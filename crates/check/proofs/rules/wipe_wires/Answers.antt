@@ -7,7 +7,7 @@ use Rattle.check.proofs.rules.wipe_wires.Goals as goal
 pub loop-i-preserved : goal.loop-i-preserved
 loop-i-preserved c =
     let f = wiped_more c.args.sites.now c.loop-i.firsts c.loop-i.i (get_or c.args.sites.now c.loop-i.i Other) refl c.loop-i.invariant in
-    subst (λ (F : List ℕ). Wiped c.args.sites.now F (c.loop-i.i + 1)) (sym c.wipe-wire.ensures) f
+    subst (λ (F : List ℕ). Wiped c.args.sites.now F (c.loop-i.i + 1)) (sym c.wipe_wire.ensures) f
 
 pub returns : goal.returns
 returns c =

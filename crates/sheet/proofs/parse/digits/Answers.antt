@@ -6,4 +6,4 @@ pub returns-in-empty : goal.returns-in-empty
 returns-in-empty c = sym (digits_none c.loop-rest.n c.loop-rest.rest.now (omega (arith, ltb-true, ltb-false))) ∙ c.loop-rest.invariant.1
 
 pub loop-rest-preserved : goal.loop-rest-preserved
-loop-rest-preserved c = (omega arith, sym (digits_step c.loop-rest.n c.loop-rest.rest.now (omega (arith, ltb-true, ltb-false)) (sym c.if-is-ascii-digit.ensures.value) (omega arith)) ∙ c.loop-rest.invariant.1)
+loop-rest-preserved c = (omega arith, sym (digits_step c.loop-rest.n c.loop-rest.rest.now (omega (arith, ltb-true, ltb-false)) (sym c.if-is_ascii_digit.ensures.value) (omega arith)) ∙ c.loop-rest.invariant.1)

@@ -5,7 +5,7 @@ use Rattle.sheet.proofs.table.fill_table.Given as goal
 
 abbrev pub invariant-loop-line : goal.invariant-loop-line
 invariant-loop-line l =
-    Underway (entries (vec_items l.sheet-lines)) (vec_items l.pending) (vec_items l.nodes) (vec_items l.lines)
+    Underway (entries (vec_items l.sheet_lines)) (vec_items l.pending) (vec_items l.nodes) (vec_items l.lines)
     × (vec_len l.nodes ≡ vec_len l.lines)
     × (4096 ≤ vec_capacity l.pending)
     × (4096 ≤ vec_capacity l.nodes)

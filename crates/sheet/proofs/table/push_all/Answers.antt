@@ -1,4 +1,4 @@
-use Rattle.std.proofs.Common.{◌≡◌, ℕ, ◌-◌, List, [], ◌∷◌, ◌++◌, reverse, length, get_or, drop, vec_items, sym, refl, ap, ◌∙◌, append-nil, arith}
+use Rattle.std.proofs.Common.{◌≡◌, ℕ, ◌-◌, List, [], ◌∷◌, ◌++◌, reverse, get_or, drop, vec_items, sym, refl, ap, ◌∙◌, append-nil, arith}
 use Rattle.std.proofs.lemmas.List.{drop_all, get_or-take, length-take-le}
 use Rattle.sheet.specs.Entries.{listed}
 use Rattle.sheet.proofs.Stacking.{stack_more}
@@ -18,9 +18,9 @@ loop-left-preserved c =
     let n = length-take-le c.args.numbers.count c.args.numbers.list (omega arith) in
     let g : get_or xs (k - 1) 0 ≡ get_or c.args.numbers.list (k - 1) 0 = get_or-take c.args.numbers.count c.args.numbers.list (k - 1) 0 (omega (arith, c.loop-left.invariant.0)) in (
       omega (arith, c.loop-left.invariant.0),
-      c.push-reserved.ensures.items ∙ ap (λ ys. ys ++ (get_or c.args.numbers.list (k - 1) 0 ∷ [])) c.loop-left.invariant.1
+      c.push_reserved.ensures.items ∙ ap (λ ys. ys ++ (get_or c.args.numbers.list (k - 1) 0 ∷ [])) c.loop-left.invariant.1
           ∙ ap (λ y. (vec_items c.args.stack.now ++ reverse (drop k xs)) ++ (y ∷ [])) (sym g)
           ∙ stack_more (vec_items c.args.stack.now) xs k (omega arith) (omega (arith, c.loop-left.invariant.0)),
-      c.push-reserved.ensures.capacity ∙ c.loop-left.invariant.2,
-      omega (arith, c.push-reserved.ensures.len, c.loop-left.invariant.3),
+      c.push_reserved.ensures.capacity ∙ c.loop-left.invariant.2,
+      omega (arith, c.push_reserved.ensures.len, c.loop-left.invariant.3),
     )

@@ -7,5 +7,5 @@ no_wires : (i : Item) → own_wires (bit false) i ≡ false
 no_wires (slot u p) = refl
 no_wires (lead k) = refl
 
-pub invariant-of-result : goal.invariant-of-result
-invariant-of-result c = (∣ subst Accepted (sym c.in-ok-program.ensures.zero) (bit-holds no_wires) ∣₁, tt)
+pub invariant_of-result : goal.invariant_of-result
+invariant_of-result c = (∣ subst Accepted (sym c.in_ok-program.ensures.zero) (bit-holds no_wires) ∣₁, tt)

@@ -13,4 +13,4 @@ checked bs (Ok _) given left held holds s c = subst (λ (p : Program). Taken bs 
 checked bs (Err f) given left held holds s c = (inr (record { program = given; says = s; denied = c.denied }), c.still_held)
 
 pub returns : goal.returns
-returns c = checked c.args.sheet.now c.check.result c.read.new.place c.check.new.program c.args.self.now.accepted c.check.new.place c.in-ok-read.ensures c.check.ensures
+returns c = checked c.args.sheet.now c.check.result c.read.new.place c.check.new.program c.args.self.now.accepted c.check.new.place c.in_ok-read.ensures c.check.ensures
