@@ -12,9 +12,9 @@ use Rattle.sheet.specs.Entry.{Entry, InRange, Each, Proper}
 use Rattle.sheet.specs.Sheet.{text, times, line-ends, used, Earlier, Says}
 use Rattle.sheet.specs.Reading.{first_line, later_line, line, no_parts, more_parts}
 use Rattle.sheet.specs.declared.refusal.Rule.TheVariants.{Unbound as Rule-Unbound, Misused as Rule-Misused, Shut as Rule-Shut, Repeated as Rule-Repeated}
-use Rattle.check.specs.Faults.{here, in-bang, in-tuple, in-abs, in-part, in_rest, unbound, Misused, misused, shut_variable, Repeated, repeated}
-use Rattle.check.proofs.Showing.{site_is, within-size, unbound-shown, shut_shown}
-use Rattle.check.proofs.Faultless.{bounded_none, once_none, clear_none}
+use Rattle.checker.specs.Faults.{here, in-bang, in-tuple, in-abs, in-part, in_rest, unbound, Misused, misused, shut_variable, Repeated, repeated}
+use Rattle.checker.proofs.Showing.{site_is, within-size, unbound-shown, shut_shown}
+use Rattle.checker.proofs.Faultless.{bounded_none, once_none, clear_none}
 use Rattle.examples.specs.Table.{sheet, ReadsAs, Table}
 
 -- No line is used twice, and each but the last is used.

@@ -7,7 +7,7 @@ use Rattle.sheet.specs.Sheet.{Says}
 use Rattle.sheet.specs.Reading.{Writes}
 use Rattle.sheet.specs.Refusal.{number}
 use Rattle.sheet.specs.declared.refusal.Rule.{Rule}
-use Rattle.check.specs.Verdict.{Breaks}
+use Rattle.checker.specs.Verdict.{Breaks}
 
 -- A sheet, from a text that has a space for each tab and a semicolon for each line feed.
 abbrev pub byte : ℕ → ℕ

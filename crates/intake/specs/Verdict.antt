@@ -4,8 +4,8 @@ use Rattle.theory.specs.Acceptance.{Accepted}
 use Rattle.sheet.specs.Reading.{term_of, HoldsSheet, Refuses}
 use Rattle.sheet.specs.declared.program.Program.{Program}
 use Rattle.sheet.specs.declared.refusal.Refusal.{Refusal}
-use Rattle.check.specs.Verdict.{Denied}
-use Rattle.check.specs.declared.accepted.AcceptedProgram.{AcceptedProgram}
+use Rattle.checker.specs.Verdict.{Denied}
+use Rattle.checker.specs.declared.accepted.AcceptedProgram.{AcceptedProgram}
 
 -- The program is what the sheet says, and the rules derive it.
 pub record Taken (bs : List ℕ) (p : Program) : Type 0 where

@@ -1,6 +1,6 @@
 //! The places and the memory that a sheet goes through until it is accepted.
-use check::accepted::AcceptedProgram;
-use check::storage::CheckStorage;
+use checker::accepted::AcceptedProgram;
+use checker::storage::CheckStorage;
 use sheet::program::Program;
 use sheet::storage::ReadStorage;
 

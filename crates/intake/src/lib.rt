@@ -5,9 +5,9 @@ ghost use Rattle.std.specs.Prelude.{IfOk};
 ghost use Rattle.sheet.specs.Reading.{HoldsZero};
 ghost use Rattle.intake.specs.Verdict.{TakesIn};
 
-use check::accepted::AcceptedProgram;
-use check::check;
-use check::storage::CheckStorage;
+use checker::accepted::AcceptedProgram;
+use checker::check;
+use checker::storage::CheckStorage;
 use intake::Intake;
 use sheet::program::Program;
 use sheet::read;

@@ -2,9 +2,9 @@
 #![tactic(auto)]
 
 use anyhow::anyhow;
-use check::accepted::AcceptedProgram;
-use check::check;
-use check::storage::CheckStorage;
+use checker::accepted::AcceptedProgram;
+use checker::check;
+use checker::storage::CheckStorage;
 use sheet::program::Program;
 use sheet::read;
 use sheet::storage::ReadStorage;

@@ -2,8 +2,8 @@ use Rattle.std.proofs.Common.{ℕ, List, Ok, Err, Result, sym, subst, inr}
 use Rattle.sheet.specs.Reading.{HoldsSheet}
 use Rattle.sheet.specs.declared.program.Program.{Program}
 use Rattle.sheet.specs.declared.refusal.Refusal.{Refusal}
-use Rattle.check.specs.Verdict.{Checked}
-use Rattle.check.specs.declared.accepted.AcceptedProgram.{AcceptedProgram}
+use Rattle.checker.specs.Verdict.{Checked}
+use Rattle.checker.specs.declared.accepted.AcceptedProgram.{AcceptedProgram}
 use Rattle.intake.specs.Verdict.{Taken, TakesIn}
 use Rattle.intake.proofs.intake.Intake.take_in.Goals as goal
 

@@ -1,8 +1,0 @@
-use Rattle.std.proofs.Common.{sym, subst}
-use Rattle.theory.specs.Acceptance.{Accepted}
-use Rattle.sheet.specs.Reading.{term_of}
-use Rattle.sheet.specs.declared.program.Program.{Program}
-use Rattle.check.proofs.check.Goals as goal
-
-pub invariant_of-place : goal.invariant_of-place
-invariant_of-place c = (∣ subst (λ (p : Program). Accepted (term_of p)) (sym c.swap.ensures.y-after) c.in_ok-verdict.ensures ∣₁, tt)

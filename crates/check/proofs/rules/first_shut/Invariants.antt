@@ -1,5 +1,0 @@
-use Rattle.check.specs.Loops.{Found, ShutSite}
-use Rattle.check.proofs.rules.first_shut.Given as goal
-
-abbrev pub invariant-loop-i : goal.invariant-loop-i
-invariant-loop-i l = Found (ShutSite l.sites) l.lines l.i l.best

@@ -1,5 +1,0 @@
-use Rattle.check.proofs.Deciding as deciding
-use Rattle.check.proofs.verdict_is_determined.Goals as goal
-
-pub returns : goal.returns
-returns c = deciding.verdict_is_determined
