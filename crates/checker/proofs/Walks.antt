@@ -191,18 +191,18 @@ popped F F1 F2 F3 f p s t k =
 
 after_push : {stop r : ℕ} {x : Site} {ys : List Site} {old mid last : Vec Site Global} {F K : Vec Frame Global} → Pushed x old mid → Walked stop ys r mid last F K → Walked stop (x ∷ ys) r old last F K
 after_push {ys = ys} {old = old} p e =
-    record { ends = e.ends; text = e.text ∙ rw p.items (append_assoc (vec_items old) _ ys); len = omega (arith, p.len, e.len); capacity = e.capacity ∙ p.capacity; frames = e.frames; frames-len = e.frames-len; frames_cap = e.frames_cap }
+    record { ends = e.ends; text = e.text ∙ rw p.items (append_assoc (vec_items old) _ ys); len = omega (arith, p.len, e.len); capacity = e.capacity ∙ p.capacity; frames = e.frames; frames_len = e.frames_len; frames_cap = e.frames_cap }
 
 after_walk : {stop halt r q : ℕ} {ys zs : List Site} {old mid last : Vec Site Global} {F F1 F2 F3 K : Vec Frame Global} → Same F F3 → Walked halt ys q old mid F1 F2 → Walked stop zs r mid last F3 K → Walked stop (ys ++ zs) r old last F K
 after_walk {ys = ys} {zs = zs} {old = old} s p e =
-    record { ends = e.ends; text = e.text ∙ rw p.text (append_assoc (vec_items old) ys zs); len = omega (arith, p.len, e.len, length-append ys zs); capacity = e.capacity ∙ p.capacity; frames = e.frames ∙ s.items; frames-len = e.frames-len ∙ s.len; frames_cap = e.frames_cap ∙ s.capacity }
+    record { ends = e.ends; text = e.text ∙ rw p.text (append_assoc (vec_items old) ys zs); len = omega (arith, p.len, e.len, length-append ys zs); capacity = e.capacity ∙ p.capacity; frames = e.frames ∙ s.items; frames_len = e.frames_len ∙ s.len; frames_cap = e.frames_cap ∙ s.capacity }
 
 told : {stop halt r : ℕ} {ys zs : List Site} {old last : Vec Site Global} {F K : Vec Frame Global} → stop ≡ halt → zs ≡ ys → Walked stop ys r old last F K → Walked halt zs r old last F K
 told {old = old} s t e =
-    record { ends = e.ends ∙ s; text = e.text ∙ ap (λ x. vec_items old ++ x) (sym t); len = e.len ∙ ap (λ x. vec_len old + length x) (sym t); capacity = e.capacity; frames = e.frames; frames-len = e.frames-len; frames_cap = e.frames_cap }
+    record { ends = e.ends ∙ s; text = e.text ∙ ap (λ x. vec_items old ++ x) (sym t); len = e.len ∙ ap (λ x. vec_len old + length x) (sym t); capacity = e.capacity; frames = e.frames; frames_len = e.frames_len; frames_cap = e.frames_cap }
 
 pub same_frames : {stop r : ℕ} {ys : List Site} {old new : Vec Site Global} {F K : Vec Frame Global} → Walked stop ys r old new F K → Same F K
-same_frames e = record { items = e.frames; len = e.frames-len; capacity = e.frames_cap }
+same_frames e = record { items = e.frames; len = e.frames_len; capacity = e.frames_cap }
 
 -- A walk over the parts of the first of some terms, and over the others.
 pub past-plain : (S0 S1 S2 : Vec Site Global) (F F1 : Vec Frame Global) (b at r : ℕ) (k : Kind) (ts after : Terms) → sizes ts ≡ 1 + sizes after

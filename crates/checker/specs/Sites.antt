@@ -74,5 +74,5 @@ pub record Walked (stop : ℕ) (ys : List Site) (r : ℕ) (old new : Vec Site Gl
   pub len : vec_len new ≡ vec_len old + length ys
   pub capacity : vec_capacity new ≡ vec_capacity old
   pub frames : vec_items after ≡ vec_items before
-  pub frames-len : vec_len after ≡ vec_len before
+  pub frames_len : vec_len after ≡ vec_len before
   pub frames_cap : vec_capacity after ≡ vec_capacity before

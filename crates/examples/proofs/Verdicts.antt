@@ -9,7 +9,7 @@ use Rattle.terms.specs.declared.Kind.TheVariants.{Variable, Wire, Constant, Bang
 use Rattle.theory.specs.Acceptance.{slot, uses}
 use Rattle.theory.proofs.Tested.{accepted_is_tested}
 use Rattle.sheet.specs.Entry.{Entry, InRange, Each, Proper}
-use Rattle.sheet.specs.Sheet.{text, times, line-ends, used, Earlier, Says}
+use Rattle.sheet.specs.Sheet.{text, times, line_ends, used, Earlier, Says}
 use Rattle.sheet.specs.Reading.{first_line, later_line, line, no_parts, more_parts}
 use Rattle.sheet.specs.declared.refusal.Rule.TheVariants.{Unbound as Rule-Unbound, Misused as Rule-Misused, Shut as Rule-Shut, Repeated as Rule-Repeated}
 use Rattle.checker.specs.Faults.{here, in-bang, in-tuple, in-abs, in-part, in_rest, unbound, Misused, misused, shut_variable, Repeated, repeated}
@@ -37,7 +37,7 @@ leaf k r e = record { own_range = r; part_count = e; part_range = tt }
 above : (k : Kind) (p : ℕ) → InRange k → 1 ≡ kind_parts k → 1 ≤ p → p ≤ 4096 → Proper (k, p ∷ [])
 above k p r e lo hi = record { own_range = r; part_count = e; part_range = ((lo, hi), tt) }
 
-said : (bs : List ℕ) (es : List Entry) → 0 < length bs → length bs ≤ 65536 → line-ends bs ≤ 4096 → bs ≡ text es ++ [] → Each Proper es → Earlier 1 es → ((p : ℕ) → times p (used es) ≤ 1) → ((k : ℕ) → 1 ≤ k → k < length es → times k (used es) ≡ 1) → Says bs es
+said : (bs : List ℕ) (es : List Entry) → 0 < length bs → length bs ≤ 65536 → line_ends bs ≤ 4096 → bs ≡ text es ++ [] → Each Proper es → Earlier 1 es → ((p : ℕ) → times p (used es) ≤ 1) → ((k : ℕ) → 1 ≤ k → k < length es → times k (used es) ≡ 1) → Says bs es
 said bs es s m n b p e o u = record { begins = record { sized = record { some = s; bytes = m; ends = n }; begin = b; proper = p; placed = record { earlier = e; once = o } }; all_used = u }
 
 -- What each sheet says.
@@ -114,8 +114,8 @@ repeated_first n (repeated {K = K} {d = d} {m = m} {w = w} a b lt) = omega (arit
 
 pub table : Table
 table = record {
-  linear-unused = record { term = _; lines = _; reads = linear_unused_reads; rule = Rule-Misused; numbered = refl; breaks = (bounded_none _ tt, record { node = 0; breaks = misused {p = 0} here (omega arith) (λ e. omega arith); line = refl; first = misused_first }) };
-  bang-unused = record { term = _; lines = _; reads = bang_unused_reads; accepted = (accepted_is_tested _).1 refl };
+  linear_unused = record { term = _; lines = _; reads = linear_unused_reads; rule = Rule-Misused; numbered = refl; breaks = (bounded_none _ tt, record { node = 0; breaks = misused {p = 0} here (omega arith) (λ e. omega arith); line = refl; first = misused_first }) };
+  bang_unused = record { term = _; lines = _; reads = bang_unused_reads; accepted = (accepted_is_tested _).1 refl };
   no_binder = record { term = _; lines = _; reads = no_binder_reads; rule = Rule-Unbound; numbered = refl; breaks = record { node = 0; breaks = unbound here (λ b. b); line = refl; first = λ n f. on_line (1 ∷ []) (omega arith, tt) n ((unbound-shown _).low n f) } };
   bang_inside = record { term = _; lines = _; reads = bang_inside_reads; rule = Rule-Shut; numbered = refl; breaks = (bounded_none _ (omega arith), once_none _ (tt, once_inside), record { node = 2; breaks = shut_variable (in-abs (in-bang here)) (omega arith) (omega arith); line = refl; first = λ n f. on_line (3 ∷ (2 ∷ (1 ∷ []))) (omega arith, (omega arith, (omega arith, tt))) n ((shut_shown _).low n f) }) };
   bang_outside = record { term = _; lines = _; reads = bang_outside_reads; accepted = (accepted_is_tested _).1 refl };

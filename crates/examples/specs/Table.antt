@@ -39,8 +39,8 @@ pub record RefusedAt (bs : List ℕ) (n l : ℕ) : Type 0 where
 
 pub record Table : Type 0 where
   -- A linear variable has to be used; that of a bang binder need not be.
-  pub linear-unused : RefusedAt (sheet (codes "c 0;l 1 1;")) 15 2
-  pub bang-unused : AcceptedSheet (sheet (codes "c 0;l 0 1;"))
+  pub linear_unused : RefusedAt (sheet (codes "c 0;l 1 1;")) 15 2
+  pub bang_unused : AcceptedSheet (sheet (codes "c 0;l 0 1;"))
   -- A variable needs a binder.
   pub no_binder : RefusedAt (sheet (codes "v 0 0;")) 14 1
   -- A linear variable must not stand in a bang inside its binder's body; the bang may stand outside the binder.

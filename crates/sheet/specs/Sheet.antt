@@ -13,14 +13,14 @@ times n [] = 0
 times n (x ∷ xs) = cond (n == x) 1 0 + times n xs
 
 -- The line ends of a text.
-abbrev pub line-ends : List ℕ → ℕ
-line-ends bs = times 10 bs
+abbrev pub line_ends : List ℕ → ℕ
+line_ends bs = times 10 bs
 
 -- A sheet is not empty, and has at most 65,536 bytes and at most 4,096 line ends.
 pub record Sized (bs : List ℕ) : Type 0 where
   pub some : 0 < length bs
   pub bytes : length bs ≤ 65536
-  pub ends : line-ends bs ≤ 4096
+  pub ends : line_ends bs ≤ 4096
 
 -- The lines that these lines name as parts.
 abbrev pub used : List Entry → List ℕ

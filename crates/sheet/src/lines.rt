@@ -1,6 +1,6 @@
 //! The lines of a sheet, each tested in turn.
 ghost use Rattle.std.specs.Prelude.{◌≡◌, ◌≤◌, vec_capacity, MatchBool};
-ghost use Rattle.sheet.specs.Sheet.{line-ends, Sized};
+ghost use Rattle.sheet.specs.Sheet.{line_ends, Sized};
 ghost use Rattle.sheet.specs.Entries.{entries};
 ghost use Rattle.sheet.specs.Lines.{Lined};
 
@@ -12,7 +12,7 @@ use crate::uses::{first_unused, mark};
 
 /// How many line feeds there are.
 fn count_line_ends(bytes: &[u8]) -> usize
-    ensures { result ≡ line-ends bytes.now }
+    ensures { result ≡ line_ends bytes.now }
 {
     let mut count = 0;
     for b in bytes {

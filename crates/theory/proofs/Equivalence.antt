@@ -1,7 +1,7 @@
 -- The rules and the counting say the same.
 use Rattle.std.proofs.Common.{◌≡◌, ℕ, zero, suc, ◌+◌, ◌<◌, ◌≤◌, Bool, true, false, [], ◌∷◌, sym, refl, ap, ◌∙◌, suc-le-suc, zero-le, le_refl, arith}
 use Rattle.terms.specs.Term.{Term, var, wire, bit, gate, new, bang, app, tuple, abs, Terms, none, part}
-use Rattle.theory.specs.Acceptance.{below, Item, slot, lead, same, Patterns, Binder, nearest, further, Items, Empty, Only, Dealt, neither, left, right, within, Holds, Hold, bit-holds, gate-holds, shared_holds, linear-holds, wire-holds, new-holds, bang-holds, app-holds, tuple-holds, abs-holds, none_hold, part_hold, inner, weigh, weighs, one, uses, pattern, linear, arity, Bound, Fine, Fines, NeedsDetermined}
+use Rattle.theory.specs.Acceptance.{below, Item, slot, lead, same, Patterns, Binder, nearest, further, Items, Empty, Only, Dealt, neither, left, right, within, Holds, Hold, bit_holds, gate_holds, shared_holds, linear_holds, wire_holds, new_holds, bang_holds, app_holds, tuple_holds, abs_holds, none_hold, part_hold, inner, weigh, weighs, one, uses, pattern, linear, arity, Bound, Fine, Fines, NeedsDetermined}
 use Rattle.theory.proofs.Weigh.{at, cond_none, cond_one, below_lt, lt_below, below_ge, weigh_same, weigh-zero, weigh_none, weigh_at_none, linear-slot, linear-lead, linear_own, linear-past}
 
 pub binder_pattern : {G : Patterns} {u n : ℕ} → Binder G u n → pattern G u ≡ n
@@ -42,16 +42,16 @@ abs-counted G n L t h (lead k) = sym (weigh_same _ _ t (linear-lead n G k)) ∙ 
 
 mutual
   pub counted : {G : Patterns} {L : Items} {t : Term} → Holds G L t → (i : Item) → weigh (at (linear G) i) t ≡ one (L i)
-  counted (bit-holds e) i = rw (e i)
-  counted (gate-holds e) i = rw (e i)
+  counted (bit_holds e) i = rw (e i)
+  counted (gate_holds e) i = rw (e i)
   counted (shared_holds {u = u} b e) i = rw (binder_pattern b, e i) (cond_none (same i (slot u 0)))
-  counted (linear-holds {u = u} {p = p} {n = n} b h e) i = rw (binder_pattern b, lt_below p n h, e i) (cond_one (same i (slot u p)))
-  counted (wire-holds {k = k} e) i = rw (e i) (cond_one (same i (lead k)))
-  counted (new-holds d) i = counted d i
-  counted (bang-holds e d) i = counted d i
-  counted (app-holds s d e) i = omega (arith, counted d i, counted e i, dealt_sum (s i))
-  counted (tuple-holds d) i = counteds d i
-  counted (abs-holds {G = G} {L = L} {n = n} {t = t} d) i = abs-counted G n L t (counted d) i
+  counted (linear_holds {u = u} {p = p} {n = n} b h e) i = rw (binder_pattern b, lt_below p n h, e i) (cond_one (same i (slot u p)))
+  counted (wire_holds {k = k} e) i = rw (e i) (cond_one (same i (lead k)))
+  counted (new_holds d) i = counted d i
+  counted (bang_holds e d) i = counted d i
+  counted (app_holds s d e) i = omega (arith, counted d i, counted e i, dealt_sum (s i))
+  counted (tuple_holds d) i = counteds d i
+  counted (abs_holds {G = G} {L = L} {n = n} {t = t} d) i = abs-counted G n L t (counted d) i
 
   pub counteds : {G : Patterns} {L : Items} {ts : Terms} → Hold G L ts → (i : Item) → weighs (at (linear G) i) ts ≡ one (L i)
   counteds (none_hold e) i = rw (e i)
@@ -59,16 +59,16 @@ mutual
 
 mutual
   pub fine : {G : Patterns} {L : Items} {t : Term} → Holds G L t → Fine G t
-  fine (bit-holds e) = tt
-  fine (gate-holds e) = tt
+  fine (bit_holds e) = tt
+  fine (gate_holds e) = tt
   fine (shared_holds b e) = binder_bound 0 b (suc-le-suc zero-le)
-  fine (linear-holds {p = p} {n = n} b h e) = binder_bound p b (lt_arity p n h)
-  fine (wire-holds e) = tt
-  fine (new-holds d) = fine d
-  fine (bang-holds {G = G} {t = t} e d) = (fine d, weigh_none (linear G) t (λ i. counted d i ∙ ap one (e i)))
-  fine (app-holds s d e) = (fine d, fine e)
-  fine (tuple-holds d) = fines d
-  fine (abs-holds {G = G} {n = n} {t = t} d) = (fine d, λ p h. sym (weigh_same _ _ t (linear_own n G p h)) ∙ counted d (slot 0 p) ∙ ap one (lt_below p n h))
+  fine (linear_holds {p = p} {n = n} b h e) = binder_bound p b (lt_arity p n h)
+  fine (wire_holds e) = tt
+  fine (new_holds d) = fine d
+  fine (bang_holds {G = G} {t = t} e d) = (fine d, weigh_none (linear G) t (λ i. counted d i ∙ ap one (e i)))
+  fine (app_holds s d e) = (fine d, fine e)
+  fine (tuple_holds d) = fines d
+  fine (abs_holds {G = G} {n = n} {t = t} d) = (fine d, λ p h. sym (weigh_same _ _ t (linear_own n G p h)) ∙ counted d (slot 0 p) ∙ ap one (lt_below p n h))
 
   pub fines : {G : Patterns} {L : Items} {ts : Terms} → Hold G L ts → Fines G ts
   fines (none_hold e) = tt
@@ -102,7 +102,7 @@ var_shared G L u p b c i = one_same _ _ (sym (c i) ∙ rw (binder_pattern b) (co
 pub var-holds : (G : Patterns) (L : Items) (u p n : ℕ) → Binder G u n → p < arity n → ((i : Item) → at (linear G) i (slot u p) ≡ one (L i)) → Holds G L (var u p)
 var-holds G L u zero zero b h c = shared_holds b (var_shared G L u 0 b c)
 var-holds G L u (suc p) zero b h c = absurd (omega arith)
-var-holds G L u p (suc n) b h c = linear-holds b h (var-linear G L u p (suc n) b h c)
+var-holds G L u p (suc n) b h c = linear_holds b h (var-linear G L u p (suc n) b h c)
 
 pub within-counted : (G : Patterns) (L : Items) (n : ℕ) (t : Term) → ((p : ℕ) → p < n → uses (slot 0 p) t ≡ 1) → ((i : Item) → weigh (inner (at (linear G) i)) t ≡ one (L i)) → (j : Item) → weigh (at (linear (n ∷ G)) j) t ≡ one (within n L j)
 within-counted G L n t o c (slot zero p) = go (below p n) refl
@@ -116,17 +116,17 @@ within-counted G L n t o c (lead k) = weigh_same _ _ t (linear-lead n G k) ∙ c
 mutual
   pub holds : (G : Patterns) (L : Items) (t : Term) → Fine G t → ((i : Item) → weigh (at (linear G) i) t ≡ one (L i)) → Holds G L t
   holds G L (var u p) f c = let r = bound_binder G u p f in var-holds G L u p r.0 r.1 r.2 c
-  holds G L (wire w) f c = wire-holds (λ i. one_same _ _ (sym (c i) ∙ cond_one (same i (lead w))))
-  holds G L (bit b) f c = bit-holds (λ i. one_same _ _ (sym (c i)))
-  holds G L (gate b) f c = gate-holds (λ i. one_same _ _ (sym (c i)))
-  holds G L (new t) f c = new-holds (holds G L t f c)
-  holds G L (bang t) f c = bang-holds (λ i. one_same _ _ (sym (c i) ∙ weigh_at_none (linear G) t f.1 i)) (holds G L t f.0 c)
+  holds G L (wire w) f c = wire_holds (λ i. one_same _ _ (sym (c i) ∙ cond_one (same i (lead w))))
+  holds G L (bit b) f c = bit_holds (λ i. one_same _ _ (sym (c i)))
+  holds G L (gate b) f c = gate_holds (λ i. one_same _ _ (sym (c i)))
+  holds G L (new t) f c = new_holds (holds G L t f c)
+  holds G L (bang t) f c = bang_holds (λ i. one_same _ _ (sym (c i) ∙ weigh_at_none (linear G) t f.1 i)) (holds G L t f.0 c)
   holds G L (app a b) f c =
-      app-holds (λ i. deal (weigh (at (linear G) i) a) (weigh (at (linear G) i) b) (L i) (c i))
+      app_holds (λ i. deal (weigh (at (linear G) i) a) (weigh (at (linear G) i) b) (L i) (c i))
       (holds G (λ i. pos (weigh (at (linear G) i) a)) a f.0 (λ i. pos_one _ (omega (arith, c i, one_le (L i)))))
       (holds G (λ i. pos (weigh (at (linear G) i) b)) b f.1 (λ i. pos_one _ (omega (arith, c i, one_le (L i)))))
-  holds G L (tuple ts) f c = tuple-holds (hold G L ts f c)
-  holds G L (abs n t) f c = abs-holds (holds (n ∷ G) (within n L) t f.0 (within-counted G L n t f.1 c))
+  holds G L (tuple ts) f c = tuple_holds (hold G L ts f c)
+  holds G L (abs n t) f c = abs_holds (holds (n ∷ G) (within n L) t f.0 (within-counted G L n t f.1 c))
 
   pub hold : (G : Patterns) (L : Items) (ts : Terms) → Fines G ts → ((i : Item) → weighs (at (linear G) i) ts ≡ one (L i)) → Hold G L ts
   hold G L none f c = none_hold (λ i. one_same _ _ (sym (c i)))

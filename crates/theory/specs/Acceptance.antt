@@ -63,16 +63,16 @@ within n L (lead k) = L (lead k)
 -- `Holds G L t`: within binders with the patterns G, the term t stands, and needs the linear items L, each once.
 mutual
   pub data Holds : Patterns → Items → Term → Type 0 where
-    bit-holds : {G : Patterns} {L : Items} {c : Bool} → Empty L → Holds G L (bit c)
-    gate-holds : {G : Patterns} {L : Items} {g : Gate} → Empty L → Holds G L (gate g)
+    bit_holds : {G : Patterns} {L : Items} {c : Bool} → Empty L → Holds G L (bit c)
+    gate_holds : {G : Patterns} {L : Items} {g : Gate} → Empty L → Holds G L (gate g)
     shared_holds : {G : Patterns} {L : Items} {u : ℕ} → Binder G u 0 → Empty L → Holds G L (var u 0)
-    linear-holds : {G : Patterns} {L : Items} {u p n : ℕ} → Binder G u n → p < n → Only (slot u p) L → Holds G L (var u p)
-    wire-holds : {G : Patterns} {L : Items} {k : ℕ} → Only (lead k) L → Holds G L (wire k)
-    new-holds : {G : Patterns} {L : Items} {t : Term} → Holds G L t → Holds G L (new t)
-    bang-holds : {G : Patterns} {L : Items} {t : Term} → Empty L → Holds G L t → Holds G L (bang t)
-    app-holds : {G : Patterns} {L M N : Items} {f a : Term} → Split L M N → Holds G M f → Holds G N a → Holds G L (app f a)
-    tuple-holds : {G : Patterns} {L : Items} {ts : Terms} → Hold G L ts → Holds G L (tuple ts)
-    abs-holds : {G : Patterns} {L : Items} {n : ℕ} {t : Term} → Holds (n ∷ G) (within n L) t → Holds G L (abs n t)
+    linear_holds : {G : Patterns} {L : Items} {u p n : ℕ} → Binder G u n → p < n → Only (slot u p) L → Holds G L (var u p)
+    wire_holds : {G : Patterns} {L : Items} {k : ℕ} → Only (lead k) L → Holds G L (wire k)
+    new_holds : {G : Patterns} {L : Items} {t : Term} → Holds G L t → Holds G L (new t)
+    bang_holds : {G : Patterns} {L : Items} {t : Term} → Empty L → Holds G L t → Holds G L (bang t)
+    app_holds : {G : Patterns} {L M N : Items} {f a : Term} → Split L M N → Holds G M f → Holds G N a → Holds G L (app f a)
+    tuple_holds : {G : Patterns} {L : Items} {ts : Terms} → Hold G L ts → Holds G L (tuple ts)
+    abs_holds : {G : Patterns} {L : Items} {n : ℕ} {t : Term} → Holds (n ∷ G) (within n L) t → Holds G L (abs n t)
 
   pub data Hold : Patterns → Items → Terms → Type 0 where
     none_hold : {G : Patterns} {L : Items} → Empty L → Hold G L none

@@ -9,7 +9,7 @@ use Rattle.checker.proofs.walk.+note_sites.Goals as goal
 pub returns-then-pending-eq0 : goal.returns-then-pending-eq0
 returns-then-pending-eq0 t c = λ ts f m.
     let e = none_of ts (m ∙ c.if-pending-eq0.true) in
-    rw e (record { ends = omega arith; text = sym (append-nil _); len = omega arith; capacity = refl; frames = refl; frames-len = refl; frames_cap = refl })
+    rw e (record { ends = omega arith; text = sym (append-nil _); len = omega arith; capacity = refl; frames = refl; frames_len = refl; frames_cap = refl })
 
 pub index-node-requires : goal.index-node-requires
 index-node-requires t c = within-table c.args.table.now c.args.at c.args.pending c.requires.stand.trees c.requires.stand.forest c.requires.stand.many c.if-pending-eq0.false
@@ -35,7 +35,7 @@ note_sites-requires t c =
     let e = c.note_sites-after.ensures (part o.body none) o.inner refl in
     let r : c.note_sites-after.result ≡ c.args.at + 1 + size o.body = omega (arith, e.ends) in
     let w = length-sitess (reverse (vec_items c.args.frames.now)) (c.args.bangs + 1) (c.args.at + 1) (part o.body none) in
-    (omega (arith, r, o.low, c.decreases), (c.requires.small, (record { trees = o.others; many = o.fewer; forest = rw r o.outer }, (omega (arith, r), (omega (arith, r, e.frames-len), (omega (arith, e.frames_cap), (omega (arith, r, w, e.len, c.push_reserved.ensures.len, c.push_reserved.ensures.capacity), omega (arith, e.capacity, c.push_reserved.ensures.len, c.push_reserved.ensures.capacity))))))))
+    (omega (arith, r, o.low, c.decreases), (c.requires.small, (record { trees = o.others; many = o.fewer; forest = rw r o.outer }, (omega (arith, r), (omega (arith, r, e.frames_len), (omega (arith, e.frames_cap), (omega (arith, r, w, e.len, c.push_reserved.ensures.len, c.push_reserved.ensures.capacity), omega (arith, e.capacity, c.push_reserved.ensures.len, c.push_reserved.ensures.capacity))))))))
 
 pub overflow_cast-at : goal.overflow_cast-at
 overflow_cast-at t c =
