@@ -3,8 +3,8 @@
 use Rattle.std.specs.Prelude.{◌≡◌, ℕ, zero, suc, ◌+◌, ◌<◌, min, true, List, [], ◌∷◌, ◌++◌, length, drop, nat_lt, refl}
 use Rattle.std.proofs.Common.{sym, ap, ap₂, ◌∙◌, append-nil, append_assoc, add-zero, zero-add, suc-add, arith, ltb-true, length-append, drop-drop}
 use Rattle.std.specs.List.{range_with_len}
-use Rattle.machines.specs.Machine.{Lawful, wire-count}
-use Rattle.machines.specs.Operation.{Operation, granted-wires}
+use Rattle.machines.specs.Machine.{Lawful, wire_count}
+use Rattle.machines.specs.Operation.{Operation, granted_wires}
 use Rattle.machines.proofs.Grants.{granted-append}
 use Rattle.numbered.specs.Counting.{counting_meaning, CountsOn}
 use Rattle.numbered.specs.Listing.{list_meaning, written, unwritten, Writes}
@@ -13,8 +13,8 @@ use Rattle.numbered.specs.declared.counting.CountingMachine.{CountingMachine}
 use Rattle.numbered.specs.declared.list.ListMachine.{ListMachine}
 use Rattle.numbered.specs.declared.numbering.Numbering.{Numbering}
 
-under : (n v : ℕ) → nat_lt v (min n wire-count) ≡ true → v < wire-count
-under n v e = omega (arith, ltb-true v (min n wire-count) e)
+under : (n v : ℕ) → nat_lt v (min n wire_count) ≡ true → v < wire_count
+under n v e = omega (arith, ltb-true v (min n wire_count) e)
 
 pub counting_lawful : (x : CountingMachine) → Lawful (counting_meaning x)
 counting_lawful x = record { wires = under x.wires.next; limit = omega arith }
@@ -29,14 +29,14 @@ counting_append a (suc m) n = rw suc-add (ap (λ l. a ∷ l) (counting_append (a
 numbers_stay : (n : Numbering) → Numbers n [] n
 numbers_stay n = record { wires = refl; next = omega arith }
 
-numbers-go : (n m k : Numbering) (os ps : List Operation) → Numbers n os m → Numbers m ps k → Numbers n (os ++ ps) k
-numbers-go n m k os ps a b =
+numbers_go : (n m k : Numbering) (os ps : List Operation) → Numbers n os m → Numbers m ps k → Numbers n (os ++ ps) k
+numbers_go n m k os ps a b =
     let e = granted-append os ps in
-    let l : length (granted-wires (os ++ ps)) ≡ length (granted-wires os) + length (granted-wires ps) = ap length e ∙ length-append (granted-wires os) (granted-wires ps) in
+    let l : length (granted_wires (os ++ ps)) ≡ length (granted_wires os) + length (granted_wires ps) = ap length e ∙ length-append (granted_wires os) (granted_wires ps) in
     record {
       wires =
-          e ∙ ap₂ (λ us vs. us ++ vs) a.wires (b.wires ∙ ap (λ x. range_with_len x (length (granted-wires ps))) a.next)
-          ∙ sym (counting_append n.next (length (granted-wires os)) (length (granted-wires ps)))
+          e ∙ ap₂ (λ us vs. us ++ vs) a.wires (b.wires ∙ ap (λ x. range_with_len x (length (granted_wires ps))) a.next)
+          ∙ sym (counting_append n.next (length (granted_wires os)) (length (granted_wires ps)))
           ∙ ap (range_with_len n.next) (sym l);
       next = omega (arith, a.next, b.next, l);
     }
@@ -45,14 +45,14 @@ pub counting_stays : (x : CountingMachine) → CountsOn x [] x
 counting_stays x = numbers_stay x.wires
 
 pub counting_goes : (x y z : CountingMachine) (os ps : List Operation) → CountsOn x os y → CountsOn y ps z → CountsOn x (os ++ ps) z
-counting_goes x y z os ps a b = numbers-go x.wires y.wires z.wires os ps a b
+counting_goes x y z os ps a b = numbers_go x.wires y.wires z.wires os ps a b
 
 pub list_stays : (x : ListMachine) → Writes x [] x
 list_stays x = record { numbers = numbers_stay x.wires; made = omega arith; adds = sym (append-nil (written x)); leaves = refl; loan = refl }
 
 pub list_goes : (x y z : ListMachine) (os ps : List Operation) → Writes x os y → Writes y ps z → Writes x (os ++ ps) z
 list_goes x y z os ps a b = record {
-  numbers = numbers-go x.wires y.wires z.wires os ps a.numbers b.numbers;
+  numbers = numbers_go x.wires y.wires z.wires os ps a.numbers b.numbers;
   made = omega (arith, a.made, b.made, length-append os ps);
   adds = b.adds ∙ ap (λ l. l ++ ps) a.adds ∙ append_assoc (written x) os ps;
   leaves = b.leaves ∙ ap (drop (length ps)) a.leaves ∙ drop-drop (length ps) (length os) (unwritten x) ∙ ap (λ n. drop n (unwritten x)) (sym (length-append os ps));

@@ -26,7 +26,7 @@ returns c =
           held = c.with-self.ensures i;
           made = m.made + 1;
           last = Some (granted c.args.constant w);
-          most-wires = 64;
+          most_wires = 64;
           most_operations = m.most_operations;
           allowed = chip_allows m.couplings;
         };

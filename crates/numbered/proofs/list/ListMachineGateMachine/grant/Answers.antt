@@ -2,7 +2,7 @@ use Rattle.std.proofs.Common.{min, [], length, sym, refl, ap, append-nil, arith}
 use Rattle.numbered.specs.Listing.{written, final}
 use Rattle.numbered.specs.Numbered.{numbered_meaning}
 use Rattle.numbered.proofs.Numbers.{numbered_full, numbers_same}
-use Rattle.numbered.proofs.Records.{list-granted}
+use Rattle.numbered.proofs.Records.{list_granted}
 use Rattle.numbered.proofs.list.ListMachineGateMachine.grant.Goals as goal
 
 pub returns-in-default : goal.returns-in-default
@@ -18,4 +18,4 @@ returns-in-default c =
 
 pub returns : goal.returns
 returns c =
-    list-granted c.args.self.now _ _ (record { room = omega arith; made = refl; list = c.write.ensures; loan = refl }) c.args.constant c.in-Some.wire.number refl c.in-Some.ensures
+    list_granted c.args.self.now _ _ (record { room = omega arith; made = refl; list = c.write.ensures; loan = refl }) c.args.constant c.in-Some.wire.number refl c.in-Some.ensures
