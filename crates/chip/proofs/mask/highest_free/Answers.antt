@@ -4,8 +4,8 @@ use Rattle.chip.specs.Chip.{in_mask, HighestFree}
 use Rattle.chip.proofs.Masks.{highest_bit, not_full}
 use Rattle.chip.proofs.mask.highest_free.Goals as goal
 
-pub overflow-sub-zeros : goal.overflow-sub-zeros
-overflow-sub-zeros c =
+pub overflow_sub-zeros : goal.overflow_sub-zeros
+overflow_sub-zeros c =
     let fits : c.args.mask < 2 ^ 64 = omega arith in
     let t = highest_bit c.args.mask (not_full c.args.mask fits c.requires) in
     omega (arith, t.1)
