@@ -10,9 +10,9 @@ returns g c =
     let M = g.M.GateMachine in
     let before = c.args.machine.now in
     let between = c.grant.new.self in
-    let w = c.in-ok-wire.wire.number in
+    let w = c.in_ok-wire.wire.number in
     let after = c.apply-gate.new.self in
-    let wire = c.in-ok-wire.ensures in
+    let wire = c.in_ok-wire.ensures in
     let gate = c.apply-gate.ensures in
     record {
       prepares = record {
