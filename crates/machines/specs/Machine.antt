@@ -1,6 +1,6 @@
 -- What a gate machine means, and what its calls do to that.
 use Rattle.std.specs.Prelude.{◌≡◌, ℕ, zero, suc, ◌+◌, ◌<◌, ◌≤◌, Bool, true, false, cond, ◌||◌, ◌⊎◌, List, [], ◌∷◌, length, Some, None, Ok, Err, Option, Result, ◌==◌, nat_eq}
-use Rattle.std.specs.List.{IsDistinct, AllByRecursion as All}
+use Rattle.std.specs.List.{IsDistinct, AllByRecursion}
 use Rattle.terms.specs.Gate.{width}
 use Rattle.terms.specs.declared.Gate.{Gate}
 use Rattle.terms.specs.declared.Wire.{Wire}
@@ -75,7 +75,7 @@ GateFull m = m.most_operations ≤ m.made
 pub record WellNamed (m : Meaning) (g : Gate) (ws : List ℕ) : Type 0 where
   pub wide : length ws ≡ width g
   pub distinct : IsDistinct nat_eq ws
-  pub held : All (λ w. m.held w ≡ true) ws
+  pub held : AllByRecursion (λ w. m.held w ≡ true) ws
 
 -- The gate g is accepted on the wires ws.
 pub record AcceptedGate (g : Gate) (ws : List ℕ) (m n : Meaning) : Type 0 where

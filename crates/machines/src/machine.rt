@@ -1,6 +1,6 @@
 //! What a gate machine is to those who drive it.
 ghost use Rattle.std.specs.Prelude.{◌≡◌, true, List, [], ◌++◌, map, Decides};
-ghost use Rattle.std.specs.List.{AllByRecursion as All};
+ghost use Rattle.std.specs.List.{AllByRecursion};
 ghost use Rattle.machines.specs.Machine.{Meaning, Lawful, Grants, Applies, grant_made, gate_made, Names};
 ghost use Rattle.machines.specs.Operation.{Operation as Made, number, numbers};
 
@@ -47,7 +47,7 @@ pub trait GateMachine {
 
     /// Whether it holds all of the wires.
     fn holds_all(&self, operands: Operands) -> bool
-        ensures { Decides result (All (λ w. (meaning self.now).held w ≡ true) (numbers operands)) }
+        ensures { Decides result (AllByRecursion (λ w. (meaning self.now).held w ≡ true) (numbers operands)) }
     {
         match operands {
             Operands::One(a) => self.holds(a),
