@@ -8,7 +8,7 @@ use Rattle.std.proofs.lemmas.Nat.{pow_pos, pow-add, div-mul-add, mod-pow-add, po
 use Rattle.std.proofs.lemmas.Bool.{cases_order, cases_lt}
 use Rattle.chip.specs.Chip.{in_mask, HighestFree}
 use Rattle.machines.specs.Machine.{counted, with_wire}
-use Rattle.machines.proofs.Counts.{counted-past, counted_same}
+use Rattle.machines.proofs.Counts.{counted_past, counted_same}
 
 -- Bit v of a word.
 abbrev bit_at : ℕ → ℕ → Bool
@@ -18,8 +18,8 @@ digit : (m : ℕ) → (m % 2 ≡ 0) ⊎ (m % 2 ≡ 1)
 digit m = ⊎_elim (λ h. inl (omega arith)) (λ h. inr (omega (arith, mod_below m 2 (lit< tt)))) (cases_lt (m % 2) 1)
 
 -- The bits below n, counted.
-bit-number : (m v : ℕ) → cond (bit_at m v) 1 0 ≡ m / 2 ^ v % 2
-bit-number m v =
+bit_number : (m v : ℕ) → cond (bit_at m v) 1 0 ≡ m / 2 ^ v % 2
+bit_number m v =
     ⊎_elim
     (λ (e : m / 2 ^ v % 2 ≡ 0). ap (λ x. cond (eqb x 1) 1 0) e ∙ sym e)
     (λ (e : m / 2 ^ v % 2 ≡ 1). ap (λ x. cond (eqb x 1) 1 0) e ∙ sym e)
@@ -36,16 +36,16 @@ counted_ones m (suc n) =
     let d = m / 2 ^ n % 2 in
     let e : m % 2 ^ suc n ≡ d * 2 ^ n + m % 2 ^ n = ap (λ k. m % 2 ^ k) (sym (one-add n)) ∙ mod-pow-add m 1 n in
     let c : ones (m % 2 ^ suc n) ≡ ones d + ones (m % 2 ^ n) = ap ones e ∙ ones_cat n d (m % 2 ^ n) (mod_below m (2 ^ n) (pow_pos n)) in
-    omega (arith, c, bit-number m n, ones_digit d (digit (m / 2 ^ n)), counted_ones m n)
+    omega (arith, c, bit_number m n, ones_digit d (digit (m / 2 ^ n)), counted_ones m n)
 
-in-word : (m v : ℕ) → v < 64 → in_mask m v ≡ bit_at m v
-in-word m v h = ap (λ b. b && bit_at m v) (lt-ltb v 64 h)
+in_word : (m v : ℕ) → v < 64 → in_mask m v ≡ bit_at m v
+in_word m v h = ap (λ b. b && bit_at m v) (lt-ltb v 64 h)
 
 -- The wires of a mask are as many as it has ones.
 pub counted_mask : (m : ℕ) → m < 2 ^ 64 → counted (in_mask m) 4096 ≡ ones m
 counted_mask m h =
-    counted-past (in_mask m) 64 4096 (lit≤ tt) (λ v l. ap (λ b. b && bit_at m v) (le-ltb v 64 l))
-    ∙ counted_same (in_mask m) (bit_at m) 64 (λ v l. in-word m v l)
+    counted_past (in_mask m) 64 4096 (lit≤ tt) (λ v l. ap (λ b. b && bit_at m v) (le-ltb v 64 l))
+    ∙ counted_same (in_mask m) (bit_at m) 64 (λ v l. in_word m v l)
     ∙ counted_ones m 64 ∙ ap ones (mod-eq_of_lt {n = m} {m = 2 ^ 64} h)
 
 -- One bit more.
@@ -100,8 +100,8 @@ word v h =
 
 -- The highest bit of the inverted word is j: bit j of the word is not set, and all above it are.
 module _ (m j : ℕ) (fits : m < 18446744073709551616) (low : 2 ^ j ≤ 18446744073709551615 - m) (high : 18446744073709551615 - m < 2 ^ suc j) where
-  bit-free : j < 64 → bit_at m j ≡ false
-  bit-free h =
+  bit_free : j < 64 → bit_at m j ≡ false
+  bit_free h =
       let q = 2 ^ j in
       let p = 2 ^ (63 - j) - 1 in
       let b = 2 * q - 1 - (18446744073709551615 - m) in
@@ -110,8 +110,8 @@ module _ (m j : ℕ) (fits : m < 18446744073709551616) (low : 2 ^ j ≤ 18446744
       let l : b < q = omega (arith, pow_pos j) in
       ap (λ x. eqb (x % 2) 1) (ap (λ x. x / q) e ∙ div-mul-add (p * 2) q b l) ∙ ap (λ x. eqb x 1) (mul-mod_left p 2)
 
-  bit-taken : (v : ℕ) → j < v → v < 64 → bit_at m v ≡ true
-  bit-taken v h k =
+  bit_taken : (v : ℕ) → j < v → v < 64 → bit_at m v ≡ true
+  bit_taken v h k =
       let q = 2 ^ v in
       let p = 2 ^ (63 - v) - 1 in
       let b = q - 1 - (18446744073709551615 - m) in
@@ -122,8 +122,8 @@ module _ (m j : ℕ) (fits : m < 18446744073709551616) (low : 2 ^ j ≤ 18446744
       ap (λ x. eqb (x % 2) 1) (ap (λ x. x / q) e ∙ div-mul-add (p * 2 + 1) q b l) ∙ ap (λ x. eqb x 1) (mod-mul-add p 2 1 (lit< tt))
 
 -- What the leading zeros of the inverted word say.
-pub highest-bit : (m : ℕ) → m < 18446744073709551615 → (j : ℕ) × (count_leading_zeros 64 (18446744073709551615 - m) + j ≡ 63) × HighestFree (in_mask m) j
-highest-bit m h =
+pub highest_bit : (m : ℕ) → m < 18446744073709551615 → (j : ℕ) × (count_leading_zeros 64 (18446744073709551615 - m) + j ≡ 63) × HighestFree (in_mask m) j
+highest_bit m h =
     let t = leading_top 64 (18446744073709551615 - m) (omega arith) (omega arith) in
     let j = t.0 in
     let l : j < 64 = omega (arith, t.1) in (
@@ -131,8 +131,8 @@ highest-bit m h =
       omega (arith, t.1),
       record {
         wire = l;
-        free = in-word m j l ∙ bit-free m j (omega arith) t.2 t.3 l;
-        highest = λ v a b. in-word m v b ∙ bit-taken m j (omega arith) t.2 t.3 v a b;
+        free = in_word m j l ∙ bit_free m j (omega arith) t.2 t.3 l;
+        highest = λ v a b. in_word m v b ∙ bit_taken m j (omega arith) t.2 t.3 v a b;
       },
     )
 

@@ -4,7 +4,7 @@ use Rattle.std.specs.Option.{option_map}
 use Rattle.terms.specs.Gate.{by_width}
 use Rattle.terms.specs.declared.Gate.{Gate}
 use Rattle.machines.specs.Machine.{Meaning, operation_limit, with_wire}
-use Rattle.machines.specs.Operation.{Operation, told, granted-wires}
+use Rattle.machines.specs.Operation.{Operation, told, granted_wires}
 use Rattle.chip.specs.declared.ChipMachine.{ChipMachine}
 
 -- Bit n of a mask, worth 2^n, is wire n. A mask has 64 bits.
@@ -16,29 +16,29 @@ abbrev pub coupled : List ℕ → ℕ → ℕ → Bool
 coupled table a b = in_mask (slice_index table a) b || in_mask (slice_index table b) a
 
 -- There are two wires, and they are coupled.
-abbrev pub both-coupled : List ℕ → List ℕ → Bool
-both-coupled table [] = false
-both-coupled table (a ∷ []) = false
-both-coupled table (a ∷ (b ∷ [])) = coupled table a b
-both-coupled table (a ∷ (b ∷ (c ∷ ws))) = false
+abbrev pub both_coupled : List ℕ → List ℕ → Bool
+both_coupled table [] = false
+both_coupled table (a ∷ []) = false
+both_coupled table (a ∷ (b ∷ [])) = coupled table a b
+both_coupled table (a ∷ (b ∷ (c ∷ ws))) = false
 
 -- A chip allows all gates of width 1, those of width 2 on two wires that are coupled, and none of width 3.
 abbrev pub chip_allows : List ℕ → Gate → List ℕ → Bool
-chip_allows table g ws = by_width true (both-coupled table ws) false g
+chip_allows table g ws = by_width true (both_coupled table ws) false g
 
 abbrev pub chip_meaning : ChipMachine → Meaning
 chip_meaning m = record {
   held = in_mask m.held;
   made = m.made;
   last = option_map told m.last;
-  most-wires = 64;
+  most_wires = 64;
   most_operations = m.most_operations;
   allowed = chip_allows m.couplings;
 }
 
 -- A chip just made, with a mask of the wires held and at most o operations: at most 2,000,000.
 abbrev pub fresh_chip : ℕ → ℕ → List ℕ → Meaning
-fresh_chip mask o table = record { held = in_mask mask; made = 0; last = None; most-wires = 64; most_operations = min o operation_limit; allowed = chip_allows table }
+fresh_chip mask o table = record { held = in_mask mask; made = 0; last = None; most_wires = 64; most_operations = min o operation_limit; allowed = chip_allows table }
 
 -- The free wire with the largest number.
 pub record HighestFree (held : ℕ → Bool) (w : ℕ) : Type 0 where
@@ -58,5 +58,5 @@ EachHighest held (w ∷ ws) = HighestFree held w × EachHighest (with_wire w hel
 
 -- A chip that makes operations grants the highest free wire each time, and holds it besides.
 pub record Fills (x : ChipMachine) (os : List Operation) (y : ChipMachine) : Type 0 where
-  pub highest : EachHighest (in_mask x.held) (granted-wires os)
-  pub holds : in_mask y.held ≡ with_wires (granted-wires os) (in_mask x.held)
+  pub highest : EachHighest (in_mask x.held) (granted_wires os)
+  pub holds : in_mask y.held ≡ with_wires (granted_wires os) (in_mask x.held)

@@ -40,7 +40,7 @@ fn records_fill_the_front(rt: HostRuntime) -> Result<(), Fail> {
         Err(GateRefusal::Misnamed)
     );
     assert_eq!(rt; machine.apply(Gate::Cx, &[one, zero]), Ok(()));
-    assert_eq!(rt; machine.records(), &[grant, gate]);
+    assert_eq!(rt; machine.records(), [grant, gate].as_slice());
     assert_eq!(rt; list, [grant, gate, blank, blank]);
     Ok(())
 }

@@ -1,7 +1,7 @@
 -- A wire that is granted for 0, and H on it.
 use Rattle.std.specs.Prelude.{◌≡◌, false, List, [], ◌∷◌, Ok, Err, Result}
 use Rattle.terms.specs.declared.Gate.TheVariants.{H}
-use Rattle.machines.specs.Machine.{Meaning, GrantFull, Granted, Applies, gate-made}
+use Rattle.machines.specs.Machine.{Meaning, GrantFull, Granted, Applies, gate_made}
 use Rattle.machines.specs.Operation.{Operation, granted}
 use Rattle.machines.specs.declared.operation.Full.{Full}
 use Rattle.machines.specs.declared.operation.GateRefusal.TheVariants.{Misnamed}
@@ -20,5 +20,5 @@ Prepares (Err e) m n = GrantFull m × (n ≡ m)
 
 -- The operations that were made.
 abbrev pub prepared : Result Prepared Full → List Operation
-prepared (Ok p) = granted false p.wire.number ∷ gate-made H (p.wire.number ∷ []) p.gate
+prepared (Ok p) = granted false p.wire.number ∷ gate_made H (p.wire.number ∷ []) p.gate
 prepared (Err e) = []

@@ -4,8 +4,8 @@
 ghost use Rattle.std.specs.Prelude.{◌≡◌, map, length, take, drop};
 ghost use Rattle.std.specs.List.{range_with_len};
 ghost use Rattle.machines.specs.Machine.{Meaning};
-ghost use Rattle.machines.specs.Operation.{told, granted-wires};
-ghost use Rattle.numbered.specs.Numbered.{fresh-numbered};
+ghost use Rattle.machines.specs.Operation.{told, granted_wires};
+ghost use Rattle.numbered.specs.Numbered.{fresh_numbered};
 ghost use Rattle.generic_use.specs.Preparing.{Prepares, prepared};
 
 use machines::machine::GateMachine;
@@ -36,8 +36,8 @@ pub fn prepare<M: GateMachine>(machine: &mut M) -> Result<Prepared, Full>
 /// The same on a list machine of at most four wires. The list then tells just the operations that were made, on wires from 0
 /// on, though the machine was driven by code that knows nothing of lists.
 pub fn prepare_listed(list: &mut [Operation]) -> Result<Prepared, Full>
-    ensures prepares { (n : Meaning) × Prepares result (fresh-numbered 0 4 (length list.old)) n }
-    ensures numbers { granted-wires (prepared result) ≡ range_with_len 0 (length (granted-wires (prepared result))) }
+    ensures prepares { (n : Meaning) × Prepares result (fresh_numbered 0 4 (length list.old)) n }
+    ensures numbers { granted_wires (prepared result) ≡ range_with_len 0 (length (granted_wires (prepared result))) }
     ensures front { map told (take (length (prepared result)) list.new) ≡ prepared result }
     ensures rest { drop (length (prepared result)) list.new ≡ drop (length (prepared result)) list.old }
 {

@@ -1,6 +1,6 @@
 -- What a gate machine means, and what its calls do to that.
 use Rattle.std.specs.Prelude.{◌≡◌, ℕ, zero, suc, ◌+◌, ◌<◌, ◌≤◌, Bool, true, false, cond, ◌||◌, ◌⊎◌, List, [], ◌∷◌, length, Some, None, Ok, Err, Option, Result, ◌==◌, nat_eq}
-use Rattle.std.specs.List.{IsDistinct, AllByRecursion as All}
+use Rattle.std.specs.List.{IsDistinct, AllByRecursion}
 use Rattle.terms.specs.Gate.{width}
 use Rattle.terms.specs.declared.Gate.{Gate}
 use Rattle.terms.specs.declared.Wire.{Wire}
@@ -11,8 +11,8 @@ use Rattle.machines.specs.declared.operation.GateRefusal.TheVariants as refusal
 use Rattle.machines.specs.declared.operation.Operands.{Operands}
 
 -- The wires are numbered 0 to 4,095, so that no machine can take more than 4,096.
-abbrev pub wire-count : ℕ
-wire-count = 4096
+abbrev pub wire_count : ℕ
+wire_count = 4096
 
 -- The most operations that a machine can be made to take.
 abbrev pub operation_limit : ℕ
@@ -24,7 +24,7 @@ pub record Meaning : Type 0 where
   pub held : ℕ → Bool
   pub made : ℕ
   pub last : Option Operation
-  pub most-wires : ℕ
+  pub most_wires : ℕ
   pub most_operations : ℕ
   pub allowed : Gate → List ℕ → Bool
 
@@ -35,12 +35,12 @@ counted s (suc n) = cond (s n) 1 0 + counted s n
 
 -- How many wires are held.
 abbrev pub holding : Meaning → ℕ
-holding m = counted m.held wire-count
+holding m = counted m.held wire_count
 
 -- Only wires are held, and the machine takes no more of them than there are.
 pub record Lawful (m : Meaning) : Type 0 where
-  pub wires : (v : ℕ) → m.held v ≡ true → v < wire-count
-  pub limit : m.most-wires ≤ wire-count
+  pub wires : (v : ℕ) → m.held v ≡ true → v < wire_count
+  pub limit : m.most_wires ≤ wire_count
 
 -- A set of wires, and the wire w besides.
 abbrev pub with_wire : ℕ → (ℕ → Bool) → ℕ → Bool
@@ -48,17 +48,17 @@ with_wire w s v = v == w || s v
 
 -- What the machine means after one more operation, when it holds `held`. Its limits and what it allows are as they were.
 abbrev pub after : Operation → (ℕ → Bool) → Meaning → Meaning
-after o held m = record { held = held; made = m.made + 1; last = Some o; most-wires = m.most-wires; most_operations = m.most_operations; allowed = m.allowed }
+after o held m = record { held = held; made = m.made + 1; last = Some o; most_wires = m.most_wires; most_operations = m.most_operations; allowed = m.allowed }
 
 -- A grant finds the machine full if it holds its most wires or has made its most operations.
 abbrev pub GrantFull : Meaning → Type 0
-GrantFull m = (m.most-wires ≤ holding m) ⊎ (m.most_operations ≤ m.made)
+GrantFull m = (m.most_wires ≤ holding m) ⊎ (m.most_operations ≤ m.made)
 
 -- The wire w, which was not held, is granted for the constant c, and is held besides.
 pub record Granted (c : Bool) (w : ℕ) (m n : Meaning) : Type 0 where
-  pub room : holding m < m.most-wires
+  pub room : holding m < m.most_wires
   pub time : m.made < m.most_operations
-  pub wire : w < wire-count
+  pub wire : w < wire_count
   pub fresh : m.held w ≡ false
   pub becomes : n ≡ after (granted c w) (with_wire w m.held) m
 
@@ -75,7 +75,7 @@ GateFull m = m.most_operations ≤ m.made
 pub record WellNamed (m : Meaning) (g : Gate) (ws : List ℕ) : Type 0 where
   pub wide : length ws ≡ width g
   pub distinct : IsDistinct nat_eq ws
-  pub held : All (λ w. m.held w ≡ true) ws
+  pub held : AllByRecursion (λ w. m.held w ≡ true) ws
 
 -- The gate g is accepted on the wires ws.
 pub record AcceptedGate (g : Gate) (ws : List ℕ) (m n : Meaning) : Type 0 where
@@ -107,9 +107,9 @@ abbrev pub grant_made : Bool → Result Wire Full → List Operation
 grant_made c (Ok w) = granted c w.number ∷ []
 grant_made c (Err e) = []
 
-abbrev pub gate-made : Gate → List ℕ → Result (Unit {0}) GateRefusal → List Operation
-gate-made g ws (Ok u) = applied g ws ∷ []
-gate-made g ws (Err e) = []
+abbrev pub gate_made : Gate → List ℕ → Result (Unit {0}) GateRefusal → List Operation
+gate_made g ws (Ok u) = applied g ws ∷ []
+gate_made g ws (Err e) = []
 
 -- The wires as operands, if they are well named.
 abbrev pub Names : Meaning → Gate → List ℕ → Option Operands → Type 0

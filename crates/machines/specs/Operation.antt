@@ -38,9 +38,9 @@ abbrev pub granted_by : Action → List ℕ → List ℕ
 granted_by (Grant c) ws = ws
 granted_by (Apply g) ws = []
 
-abbrev pub granted-wires : List Operation → List ℕ
-granted-wires [] = []
-granted-wires (o ∷ os) = granted_by o.action o.wires ++ granted-wires os
+abbrev pub granted_wires : List Operation → List ℕ
+granted_wires [] = []
+granted_wires (o ∷ os) = granted_by o.action o.wires ++ granted_wires os
 
 -- Wires as operands: there are one to three of them.
 abbrev pub Listed : List Wire → Option Operands → Type 0

@@ -1,7 +1,7 @@
 //! What a gate machine is to those who drive it.
 ghost use Rattle.std.specs.Prelude.{◌≡◌, true, List, [], ◌++◌, map, Decides};
-ghost use Rattle.std.specs.List.{AllByRecursion as All};
-ghost use Rattle.machines.specs.Machine.{Meaning, Lawful, Grants, Applies, grant_made, gate-made, Names};
+ghost use Rattle.std.specs.List.{AllByRecursion};
+ghost use Rattle.machines.specs.Machine.{Meaning, Lawful, Grants, Applies, grant_made, gate_made, Names};
 ghost use Rattle.machines.specs.Operation.{Operation as Made, number, numbers};
 
 use crate::operation::{Full, GateRefusal, Operands};
@@ -39,7 +39,7 @@ pub trait GateMachine {
     /// Applies a gate to wires.
     fn apply(&mut self, gate: Gate, wires: &[Wire]) -> Result<(), GateRefusal>
         ensures applies { Applies gate (map number wires.now) result (meaning self.old) (meaning self.new) }
-        ensures makes { makes self.old (gate-made gate (map number wires.now) result) self.new };
+        ensures makes { makes self.old (gate_made gate (map number wires.now) result) self.new };
 
     /// Whether the machine holds the wire.
     fn holds(&self, wire: Wire) -> bool
@@ -47,7 +47,7 @@ pub trait GateMachine {
 
     /// Whether it holds all of the wires.
     fn holds_all(&self, operands: Operands) -> bool
-        ensures { Decides result (All (λ w. (meaning self.now).held w ≡ true) (numbers operands)) }
+        ensures { Decides result (AllByRecursion (λ w. (meaning self.now).held w ≡ true) (numbers operands)) }
     {
         match operands {
             Operands::One(a) => self.holds(a),

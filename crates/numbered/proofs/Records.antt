@@ -46,8 +46,8 @@ pub record Wrote (x : ListMachine) (r : Record) (y : ListMachine) : Type 0 where
 
 module _ (x y : ListMachine) (r : Record) (wrote : Wrote x r y) where
   -- It is the record of a grant,
-  pub list-granted : (c : Bool) (w : ℕ) → told r ≡ granted c w → Taken x.wires w y.wires → record { grants : Granted c w (list_meaning x) (list_meaning y); makes : Writes x (granted c w ∷ []) y }
-  list-granted c w tells taken =
+  pub list_granted : (c : Bool) (w : ℕ) → told r ≡ granted c w → Taken x.wires w y.wires → record { grants : Granted c w (list_meaning x) (list_meaning y); makes : Writes x (granted c w ∷ []) y }
+  list_granted c w tells taken =
       let fits : x.made < length x.list.now = omega (arith, wrote.room) in
       let most = min (length x.list.now) 2000000 in
       record {
@@ -58,8 +58,8 @@ module _ (x y : ListMachine) (r : Record) (wrote : Wrote x r y) where
       }
 
   -- or of a gate.
-  pub list-applied : (g : Gate) (ws : List ℕ) → told r ≡ applied g ws → y.wires ≡ x.wires → WellNamed (list_meaning x) g ws → record { applies : AcceptedGate g ws (list_meaning x) (list_meaning y); makes : Writes x (applied g ws ∷ []) y }
-  list-applied g ws tells same named =
+  pub list_applied : (g : Gate) (ws : List ℕ) → told r ≡ applied g ws → y.wires ≡ x.wires → WellNamed (list_meaning x) g ws → record { applies : AcceptedGate g ws (list_meaning x) (list_meaning y); makes : Writes x (applied g ws ∷ []) y }
+  list_applied g ws tells same named =
       let fits : x.made < length x.list.now = omega (arith, wrote.room) in
       let most = min (length x.list.now) 2000000 in
       record {

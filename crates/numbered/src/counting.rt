@@ -2,9 +2,9 @@
 ghost use Rattle.std.specs.Prelude.{◌≡◌, min};
 ghost use Rattle.std.specs.Option.{option_map};
 ghost use Rattle.numbered.specs.Counting.{counting_meaning, CountsOn};
-ghost use Rattle.machines.specs.Machine.{wire-count};
+ghost use Rattle.machines.specs.Machine.{wire_count};
 ghost use Rattle.numbered.specs.Laws.{counting_lawful, counting_stays, counting_goes};
-ghost use Rattle.numbered.specs.Numbered.{fresh-numbered};
+ghost use Rattle.numbered.specs.Numbered.{fresh_numbered};
 
 use crate::numbering::Numbering;
 use machines::machine::{GateMachine, MOST_OPERATIONS};
@@ -24,8 +24,8 @@ impl CountingMachine {
     /// Holds the wires below `start`, and takes at most `most_wires` wires and `most_operations` operations. More than
     /// 4,096 wires count as 4,096, more than 2,000,000 operations as 2,000,000, and a start over the most wires as these.
     pub fn new(start: u32, most_wires: u32, most_operations: u32) -> CountingMachine
-        ensures means { counting_meaning result ≡ fresh-numbered start most_wires most_operations }
-        ensures next { result.wires.next ≡ min start (min most_wires wire-count) }
+        ensures means { counting_meaning result ≡ fresh_numbered start most_wires most_operations }
+        ensures next { result.wires.next ≡ min start (min most_wires wire_count) }
     {
         CountingMachine {
             wires: Numbering::new(start, most_wires),

@@ -1,9 +1,9 @@
 //! The list machine.
 ghost use Rattle.std.specs.Prelude.{◌≡◌, ◌<◌, min, length, take, slice_set};
-ghost use Rattle.machines.specs.Machine.{wire-count};
+ghost use Rattle.machines.specs.Machine.{wire_count};
 ghost use Rattle.numbered.specs.Laws.{list_lawful, list_stays, list_goes};
 ghost use Rattle.numbered.specs.Listing.{list_meaning, Writes};
-ghost use Rattle.numbered.specs.Numbered.{fresh-numbered};
+ghost use Rattle.numbered.specs.Numbered.{fresh_numbered};
 
 use crate::numbering::Numbering;
 use machines::machine::{GateMachine, MOST_OPERATIONS};
@@ -24,8 +24,8 @@ impl<'a> ListMachine<'a> {
     /// More than 4,096 wires count as 4,096, more than 2,000,000 records as 2,000,000, and a start over the most wires as
     /// these.
     pub fn new(start: u32, most_wires: u32, list: &'a mut [Operation]) -> ListMachine<'a>
-        ensures means { list_meaning result ≡ fresh-numbered start most_wires (length list.old) }
-        ensures next { result.wires.next ≡ min start (min most_wires wire-count) }
+        ensures means { list_meaning result ≡ fresh_numbered start most_wires (length list.old) }
+        ensures next { result.wires.next ≡ min start (min most_wires wire_count) }
         ensures made { result.made ≡ 0 }
         ensures list { result.list.now ≡ list.old }
         ensures loan { result.list.ghost_name ≡ list.entry.ghost_name }

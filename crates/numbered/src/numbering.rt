@@ -1,6 +1,6 @@
 //! Wires that are numbered from 0 on.
 ghost use Rattle.std.specs.Prelude.{◌≡◌, min};
-ghost use Rattle.machines.specs.Machine.{wire-count};
+ghost use Rattle.machines.specs.Machine.{wire_count};
 ghost use Rattle.numbered.specs.Numbered.{numbered, Takes};
 ghost use Rattle.machines.specs.Operation.{number};
 
@@ -17,8 +17,8 @@ pub(crate) struct Numbering {
 impl Numbering {
     /// Holds the wires below `start`. More than 4,096 wires count as 4,096, and a start over the most wires as these.
     pub(crate) fn new(start: u32, most: u32) -> Numbering
-        ensures next { result.next ≡ min start (min most wire-count) }
-        ensures most { result.most ≡ min most wire-count }
+        ensures next { result.next ≡ min start (min most wire_count) }
+        ensures most { result.most ≡ min most wire_count }
     {
         let most = most.min(MOST_WIRES as u32);
         Numbering {

@@ -1,6 +1,7 @@
 -- The money tariff.
 use Rattle.std.specs.Prelude.{ℕ, ◌+◌, ◌-◌, ◌^◌, ◌<◌, min}
-use Rattle.std.proofs.Common.{arith}
+use Rattle.std.proofs.Common.{lt_of_le_of_lt, lit<}
+use Rattle.std.proofs.Math.Nat.{min-le_right}
 use Rattle.terms.specs.Gate.{by_width}
 use Rattle.terms.specs.declared.StepKind.{StepKind}
 use Rattle.terms.specs.declared.StepKind.TheVariants.{Single, Tuple, Bang, Grant, Gate}
@@ -17,7 +18,7 @@ cents_of (Gate g) = by_width 10 40 150 g
 
 -- A number as an amount: one that passes 2^63 - 1 counts as that.
 pub limited : (n : ℕ) → min n (2 ^ 63 - 1) < 2 ^ 63
-limited n = omega arith
+limited n = lt_of_le_of_lt (min-le_right n (2 ^ 63 - 1)) (lit< tt)
 
 abbrev pub amount : ℕ → Cents
 amount n = record { value = min n (2 ^ 63 - 1); limit = limited n }

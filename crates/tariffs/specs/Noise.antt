@@ -1,6 +1,6 @@
 -- The tariff of noise grades.
 use Rattle.std.specs.Prelude.{ℕ, ◌≤◌, max, min}
-use Rattle.std.proofs.Common.{arith}
+use Rattle.std.proofs.Math.Nat.{min-le_right, max-le}
 use Rattle.terms.specs.Gate.{by_width}
 use Rattle.terms.specs.declared.StepKind.{StepKind}
 use Rattle.terms.specs.declared.StepKind.TheVariants.{Single, Tuple, Bang, Grant, Gate}
@@ -17,14 +17,14 @@ grade_of (Gate g) = by_width 1 4 9 g
 
 -- A number as a grade: one over 9 counts as 9.
 pub limited : (n : ℕ) → min n 9 ≤ 9
-limited n = omega arith
+limited n = min-le_right n 9
 
 abbrev pub graded : ℕ → Grade
 graded n = record { value = min n 9; limit = limited n }
 
 -- Of two grades the greater counts.
 pub greater-limited : (x y : Grade) → max x.value y.value ≤ 9
-greater-limited x y = omega (arith, x.limit, y.limit)
+greater-limited x y = max-le x.limit y.limit
 
 abbrev pub greater : Grade → Grade → Grade
 greater x y = record { value = max x.value y.value; limit = greater-limited x y }

@@ -1,6 +1,6 @@
 use Rattle.std.proofs.Common.{false, [], ◌∷◌}
 use Rattle.terms.specs.declared.Gate.TheVariants.{H}
-use Rattle.machines.specs.Machine.{gate-made}
+use Rattle.machines.specs.Machine.{gate_made}
 use Rattle.machines.specs.Operation.{granted}
 use Rattle.generic_use.proofs.Preparing.{never_misnamed}
 use Rattle.generic_use.proofs.prepare.Goals as goal
@@ -10,9 +10,9 @@ returns g c =
     let M = g.M.GateMachine in
     let before = c.args.machine.now in
     let between = c.grant.new.self in
-    let w = c.in-ok-wire.wire.number in
+    let w = c.in_ok-wire.wire.number in
     let after = c.apply-gate.new.self in
-    let wire = c.in-ok-wire.ensures in
+    let wire = c.in_ok-wire.ensures in
     let gate = c.apply-gate.ensures in
     record {
       prepares = record {
@@ -21,5 +21,5 @@ returns g c =
         applies = gate.applies;
         named = never_misnamed false w c.apply-gate.result (M.meaning before) (M.meaning between) (M.meaning after) wire.grants gate.applies;
       };
-      makes = M.goes before between after (granted false w ∷ []) (gate-made H (w ∷ []) c.apply-gate.result) wire.makes gate.makes;
+      makes = M.goes before between after (granted false w ∷ []) (gate_made H (w ∷ []) c.apply-gate.result) wire.makes gate.makes;
     }

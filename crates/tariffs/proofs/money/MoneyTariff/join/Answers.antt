@@ -1,6 +1,0 @@
-use borrow.Author.Rules.{rules}
-use Rattle.tariffs.specs.Charges.{same_cents}
-use Rattle.tariffs.proofs.money.MoneyTariff.join.Goals as goal
-
-pub returns : goal.returns
-returns c = same_cents _ _ (search rules)
