@@ -184,8 +184,15 @@ head-is head_is
 here-stood here_stood
 highest-append highest_append
 highest-bit highest_bit
+in-abs in_abs
+in-arg in_arg
+in-bang in_bang
 in-first in_first
+in-fun in_fun
 in-mask in_mask
+in-new in_new
+in-part in_part
+in-tuple in_tuple
 in-word in_word
 inner-le inner_le
 inner-plus inner_plus

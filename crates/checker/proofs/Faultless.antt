@@ -6,7 +6,7 @@ use Rattle.terms.specs.Term.{Term, var, wire, bit, gate, new, bang, app, tuple, 
 use Rattle.theory.specs.Acceptance.{Item, slot, lead, below, inner, weigh, weighs, one, uses, linear, Patterns, Bound, bound, pattern, Bounded, Boundeds, Once, Onces, Clear, Clears}
 use Rattle.theory.proofs.Weigh.{below_ltb, weigh_same, weigh-zero, weigh_le}
 use Rattle.theory.proofs.Tested.{decides_bound}
-use Rattle.checker.specs.Faults.{Scope, patterns, frame, At, Ats, here, in-new, in-bang, in-fun, in-arg, in-tuple, in-abs, in-part, in_rest, Unbound, unbound, Misused, misused, Shut, shut_variable, shut_wire, Nowhere}
+use Rattle.checker.specs.Faults.{Scope, patterns, frame, At, Ats, here, in_new, in_bang, in_fun, in_arg, in_tuple, in_abs, in_part, in_rest, Unbound, unbound, Misused, misused, Shut, shut_variable, shut_wire, Nowhere}
 use Rattle.checker.specs.Sites.{resolve, site_of}
 use Rattle.checker.specs.Loops.{shut_site}
 use Rattle.checker.proofs.Showing.{shut_of, shut_resolve}
@@ -21,28 +21,28 @@ mutual
   bounded G b m (wire w) h = tt
   bounded G b m (bit x) h = tt
   bounded G b m (gate g) h = tt
-  bounded G b m (new t) h = bounded G b (m + 1) t (λ n H c u p a. h n H c u p (in-new a))
-  bounded G b m (bang t) h = bounded G (b + 1) (m + 1) t (λ n H c u p a. h n H c u p (in-bang a))
-  bounded G b m (app f x) h = (bounded G b (m + 1) f (λ n H c u p a. h n H c u p (in-fun a)), bounded G b (m + 1 + size f) x (λ n H c u p a. h n H c u p (in-arg a)))
-  bounded G b m (tuple ts) h = boundeds G b (m + 1) ts (λ n H c u p a. h n H c u p (in-tuple a))
-  bounded G b m (abs k t) h = bounded (frame m k b ∷ G) b (m + 1) t (λ n H c u p a. h n H c u p (in-abs a))
+  bounded G b m (new t) h = bounded G b (m + 1) t (λ n H c u p a. h n H c u p (in_new a))
+  bounded G b m (bang t) h = bounded G (b + 1) (m + 1) t (λ n H c u p a. h n H c u p (in_bang a))
+  bounded G b m (app f x) h = (bounded G b (m + 1) f (λ n H c u p a. h n H c u p (in_fun a)), bounded G b (m + 1 + size f) x (λ n H c u p a. h n H c u p (in_arg a)))
+  bounded G b m (tuple ts) h = boundeds G b (m + 1) ts (λ n H c u p a. h n H c u p (in_tuple a))
+  bounded G b m (abs k t) h = bounded (frame m k b ∷ G) b (m + 1) t (λ n H c u p a. h n H c u p (in_abs a))
 
   boundeds : (G : Scope) (b m : ℕ) (ts : Terms) → ((n : ℕ) (H : Scope) (c u p : ℕ) → Ats G b m ts n H c (var u p) → Bound (patterns H) u p) → Boundeds (patterns G) ts
   boundeds G b m none h = tt
-  boundeds G b m (part t ts) h = (bounded G b m t (λ n H c u p a. h n H c u p (in-part a)), boundeds G b (m + size t) ts (λ n H c u p a. h n H c u p (in_rest a)))
+  boundeds G b m (part t ts) h = (bounded G b m t (λ n H c u p a. h n H c u p (in_part a)), boundeds G b (m + size t) ts (λ n H c u p a. h n H c u p (in_rest a)))
 
 mutual
   at_bounded : {G : Scope} {b m : ℕ} {t : Term} {n : ℕ} {H : Scope} {c : ℕ} {s : Term} → At G b m t n H c s → Bounded (patterns G) t → Bounded (patterns H) s
   at_bounded here h = h
-  at_bounded (in-new a) h = at_bounded a h
-  at_bounded (in-bang a) h = at_bounded a h
-  at_bounded (in-fun a) h = at_bounded a h.0
-  at_bounded (in-arg a) h = at_bounded a h.1
-  at_bounded (in-tuple a) h = ats_bounded a h
-  at_bounded (in-abs a) h = at_bounded a h
+  at_bounded (in_new a) h = at_bounded a h
+  at_bounded (in_bang a) h = at_bounded a h
+  at_bounded (in_fun a) h = at_bounded a h.0
+  at_bounded (in_arg a) h = at_bounded a h.1
+  at_bounded (in_tuple a) h = ats_bounded a h
+  at_bounded (in_abs a) h = at_bounded a h
 
   ats_bounded : {G : Scope} {b m : ℕ} {ts : Terms} {n : ℕ} {H : Scope} {c : ℕ} {s : Term} → Ats G b m ts n H c s → Boundeds (patterns G) ts → Bounded (patterns H) s
-  ats_bounded (in-part a) h = at_bounded a h.0
+  ats_bounded (in_part a) h = at_bounded a h.0
   ats_bounded (in_rest a) h = ats_bounded a h.1
 
 pub no_unbound : (t : Term) → Nowhere (Unbound t) → Bounded [] t
@@ -58,28 +58,28 @@ mutual
   once G b m (wire w) h = tt
   once G b m (bit x) h = tt
   once G b m (gate g) h = tt
-  once G b m (new t) h = once G b (m + 1) t (λ n H c k s a. h n H c k s (in-new a))
-  once G b m (bang t) h = once G (b + 1) (m + 1) t (λ n H c k s a. h n H c k s (in-bang a))
-  once G b m (app f x) h = (once G b (m + 1) f (λ n H c k s a. h n H c k s (in-fun a)), once G b (m + 1 + size f) x (λ n H c k s a. h n H c k s (in-arg a)))
-  once G b m (tuple ts) h = onces G b (m + 1) ts (λ n H c k s a. h n H c k s (in-tuple a))
-  once G b m (abs k t) h = (once (frame m k b ∷ G) b (m + 1) t (λ n H c j s a. h n H c j s (in-abs a)), h m G b k t here)
+  once G b m (new t) h = once G b (m + 1) t (λ n H c k s a. h n H c k s (in_new a))
+  once G b m (bang t) h = once G (b + 1) (m + 1) t (λ n H c k s a. h n H c k s (in_bang a))
+  once G b m (app f x) h = (once G b (m + 1) f (λ n H c k s a. h n H c k s (in_fun a)), once G b (m + 1 + size f) x (λ n H c k s a. h n H c k s (in_arg a)))
+  once G b m (tuple ts) h = onces G b (m + 1) ts (λ n H c k s a. h n H c k s (in_tuple a))
+  once G b m (abs k t) h = (once (frame m k b ∷ G) b (m + 1) t (λ n H c j s a. h n H c j s (in_abs a)), h m G b k t here)
 
   onces : (G : Scope) (b m : ℕ) (ts : Terms) → ((n : ℕ) (H : Scope) (c k : ℕ) (s : Term) → Ats G b m ts n H c (abs k s) → (p : ℕ) → p < k → uses (slot 0 p) s ≡ 1) → Onces ts
   onces G b m none h = tt
-  onces G b m (part t ts) h = (once G b m t (λ n H c k s a. h n H c k s (in-part a)), onces G b (m + size t) ts (λ n H c k s a. h n H c k s (in_rest a)))
+  onces G b m (part t ts) h = (once G b m t (λ n H c k s a. h n H c k s (in_part a)), onces G b (m + size t) ts (λ n H c k s a. h n H c k s (in_rest a)))
 
 mutual
   at_once : {G : Scope} {b m : ℕ} {t : Term} {n : ℕ} {H : Scope} {c : ℕ} {s : Term} → At G b m t n H c s → Once t → Once s
   at_once here h = h
-  at_once (in-new a) h = at_once a h
-  at_once (in-bang a) h = at_once a h
-  at_once (in-fun a) h = at_once a h.0
-  at_once (in-arg a) h = at_once a h.1
-  at_once (in-tuple a) h = ats_once a h
-  at_once (in-abs a) h = at_once a h.0
+  at_once (in_new a) h = at_once a h
+  at_once (in_bang a) h = at_once a h
+  at_once (in_fun a) h = at_once a h.0
+  at_once (in_arg a) h = at_once a h.1
+  at_once (in_tuple a) h = ats_once a h
+  at_once (in_abs a) h = at_once a h.0
 
   ats_once : {G : Scope} {b m : ℕ} {ts : Terms} {n : ℕ} {H : Scope} {c : ℕ} {s : Term} → Ats G b m ts n H c s → Onces ts → Once s
-  ats_once (in-part a) h = at_once a h.0
+  ats_once (in_part a) h = at_once a h.0
   ats_once (in_rest a) h = ats_once a h.1
 
 number_stable : (a b : ℕ) → ((a ≡ b → ⊥) → ⊥) → a ≡ b
@@ -146,38 +146,38 @@ mutual
   clear G b m (wire w) d h = (tt, one_false _ (h m G b (wire w) here))
   clear G b m (bit x) d h = (tt, refl)
   clear G b m (gate g) d h = (tt, refl)
-  clear G b m (new t) d h = clear G b (m + 1) t d (λ n H c s a. h n H c s (in-new a))
+  clear G b m (new t) d h = clear G b (m + 1) t d (λ n H c s a. h n H c s (in_new a))
   clear G b m (bang t) d h =
-      let r = clear G (b + 1) (m + 1) t (shallow_more G b d) (λ n H c s a. h n H c s (in-bang a)) in
+      let r = clear G (b + 1) (m + 1) t (shallow_more G b d) (λ n H c s a. h n H c s (in_bang a)) in
       ((r.0, sym (weigh_same _ _ t (strained-linear G b d)) ∙ r.1), omega (arith, weigh_le (strained G b) (strained G (b + 1)) t (strained_more G b d), r.1))
   clear G b m (app f x) d h =
-      let r = clear G b (m + 1) f d (λ n H c s a. h n H c s (in-fun a)) in
-      let q = clear G b (m + 1 + size f) x d (λ n H c s a. h n H c s (in-arg a)) in
+      let r = clear G b (m + 1) f d (λ n H c s a. h n H c s (in_fun a)) in
+      let q = clear G b (m + 1 + size f) x d (λ n H c s a. h n H c s (in_arg a)) in
       ((r.0, q.0), omega (arith, r.1, q.1))
-  clear G b m (tuple ts) d h = clears G b (m + 1) ts d (λ n H c s a. h n H c s (in-tuple a))
+  clear G b m (tuple ts) d h = clears G b (m + 1) ts d (λ n H c s a. h n H c s (in_tuple a))
   clear G b m (abs k t) d h =
-      let r = clear (frame m k b ∷ G) b (m + 1) t (le_refl _, d) (λ n H c s a. h n H c s (in-abs a)) in
+      let r = clear (frame m k b ∷ G) b (m + 1) t (le_refl _, d) (λ n H c s a. h n H c s (in_abs a)) in
       (r.0, sym (weigh_same _ _ t (strained-inner G b m k)) ∙ r.1)
 
   clears : (G : Scope) (b m : ℕ) (ts : Terms) → Shallow G b → ((n : ℕ) (H : Scope) (c : ℕ) (s : Term) → Ats G b m ts n H c s → shut_site (site_of H c s) ≡ false) → Clears (patterns G) ts × (weighs (strained G b) ts ≡ 0)
   clears G b m none d h = (tt, refl)
   clears G b m (part t ts) d h =
-      let r = clear G b m t d (λ n H c s a. h n H c s (in-part a)) in
+      let r = clear G b m t d (λ n H c s a. h n H c s (in_part a)) in
       let q = clears G b (m + size t) ts d (λ n H c s a. h n H c s (in_rest a)) in
       ((r.0, q.0), omega (arith, r.1, q.1))
 
 mutual
   at_clear : {G : Scope} {b m : ℕ} {t : Term} {n : ℕ} {H : Scope} {c : ℕ} {s : Term} → At G b m t n H c s → Shallow G b → Clear (patterns G) t → weigh (strained G b) t ≡ 0 → weigh (strained H c) s ≡ 0
   at_clear here d h w = w
-  at_clear (in-new a) d h w = at_clear a d h w
-  at_clear (in-bang {G = G} {b = b} {t = t} a) d h w = at_clear a (shallow_more G b d) h.0 (weigh_same _ _ t (strained-linear G b d) ∙ h.1)
-  at_clear (in-fun a) d h w = at_clear a d h.0 (omega arith)
-  at_clear (in-arg a) d h w = at_clear a d h.1 (omega arith)
-  at_clear (in-tuple a) d h w = ats_clear a d h w
-  at_clear (in-abs {G = G} {b = b} {m = m} {k = k} {t = t} a) d h w = at_clear a (le_refl _, d) h (weigh_same _ _ t (strained-inner G b m k) ∙ w)
+  at_clear (in_new a) d h w = at_clear a d h w
+  at_clear (in_bang {G = G} {b = b} {t = t} a) d h w = at_clear a (shallow_more G b d) h.0 (weigh_same _ _ t (strained-linear G b d) ∙ h.1)
+  at_clear (in_fun a) d h w = at_clear a d h.0 (omega arith)
+  at_clear (in_arg a) d h w = at_clear a d h.1 (omega arith)
+  at_clear (in_tuple a) d h w = ats_clear a d h w
+  at_clear (in_abs {G = G} {b = b} {m = m} {k = k} {t = t} a) d h w = at_clear a (le_refl _, d) h (weigh_same _ _ t (strained-inner G b m k) ∙ w)
 
   ats_clear : {G : Scope} {b m : ℕ} {ts : Terms} {n : ℕ} {H : Scope} {c : ℕ} {s : Term} → Ats G b m ts n H c s → Shallow G b → Clears (patterns G) ts → weighs (strained G b) ts ≡ 0 → weigh (strained H c) s ≡ 0
-  ats_clear (in-part a) d h w = at_clear a d h.0 (omega arith)
+  ats_clear (in_part a) d h w = at_clear a d h.0 (omega arith)
   ats_clear (in_rest a) d h w = ats_clear a d h.1 (omega arith)
 
 not_true_false : (x : Bool) → (x ≡ true → ⊥) → x ≡ false

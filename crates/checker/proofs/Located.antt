@@ -5,7 +5,7 @@ use Rattle.std.proofs.lemmas.List.{get_or_append_left, get_or-append_right}
 use Rattle.terms.specs.Term.{Term, var, wire, bit, gate, new, bang, app, tuple, abs, Terms, none, part, size, sizes}
 use Rattle.checker.specs.declared.site.Site.{Site}
 use Rattle.checker.specs.declared.site.Site.TheVariants.{Other}
-use Rattle.checker.specs.Faults.{Scope, frame, At, Ats, here, in-new, in-bang, in-fun, in-arg, in-tuple, in-abs, in-part, in_rest}
+use Rattle.checker.specs.Faults.{Scope, frame, At, Ats, here, in_new, in_bang, in_fun, in_arg, in_tuple, in_abs, in_part, in_rest}
 use Rattle.checker.specs.Sites.{site_of, sites, sitess}
 use Rattle.checker.proofs.Walks.{length-sites}
 use Rattle.terms.proofs.Forests.{size-parts}
@@ -13,15 +13,15 @@ use Rattle.terms.proofs.Forests.{size-parts}
 mutual
   pub at_range : {G : Scope} {b m : ℕ} {t : Term} {n : ℕ} {H : Scope} {c : ℕ} {s : Term} → At G b m t n H c s → (m ≤ n) × (n < m + size t)
   at_range (here {t = t}) = (omega arith, omega (arith, size-parts t))
-  at_range (in-new a) = let r = at_range a in (omega arith, omega arith)
-  at_range (in-bang a) = let r = at_range a in (omega arith, omega arith)
-  at_range (in-fun a) = let r = at_range a in (omega arith, omega arith)
-  at_range (in-arg a) = let r = at_range a in (omega arith, omega arith)
-  at_range (in-tuple a) = let r = ats_range a in (omega arith, omega arith)
-  at_range (in-abs a) = let r = at_range a in (omega arith, omega arith)
+  at_range (in_new a) = let r = at_range a in (omega arith, omega arith)
+  at_range (in_bang a) = let r = at_range a in (omega arith, omega arith)
+  at_range (in_fun a) = let r = at_range a in (omega arith, omega arith)
+  at_range (in_arg a) = let r = at_range a in (omega arith, omega arith)
+  at_range (in_tuple a) = let r = ats_range a in (omega arith, omega arith)
+  at_range (in_abs a) = let r = at_range a in (omega arith, omega arith)
 
   pub ats_range : {G : Scope} {b m : ℕ} {ts : Terms} {n : ℕ} {H : Scope} {c : ℕ} {s : Term} → Ats G b m ts n H c s → (m ≤ n) × (n < m + sizes ts)
-  ats_range (in-part a) = let r = at_range a in (omega arith, omega arith)
+  ats_range (in_part a) = let r = at_range a in (omega arith, omega arith)
   ats_range (in_rest a) = let r = ats_range a in (omega arith, omega arith)
 
 head : (G : Scope) (b m : ℕ) (t : Term) (d : Site) → get_or (sites G b m t) 0 d ≡ site_of G b t
@@ -49,20 +49,20 @@ right_of xs ys m n k d e lo =
 mutual
   pub at_site : {G : Scope} {b m : ℕ} {t : Term} {n : ℕ} {H : Scope} {c : ℕ} {s : Term} (d : Site) → At G b m t n H c s → get_or (sites G b m t) (n - m) d ≡ site_of H c s
   at_site d (here {G = G} {b = b} {m = m} {t = t}) = let e : m - m ≡ 0 = omega arith in rw e (head G b m t d)
-  at_site d (in-new a) = tail _ _ _ _ d (at_range a).0 ∙ at_site d a
-  at_site d (in-bang a) = tail _ _ _ _ d (at_range a).0 ∙ at_site d a
-  at_site d (in-fun {G = G} {b = b} {m = m} {f = f} {a = x} {n = n} a) =
+  at_site d (in_new a) = tail _ _ _ _ d (at_range a).0 ∙ at_site d a
+  at_site d (in_bang a) = tail _ _ _ _ d (at_range a).0 ∙ at_site d a
+  at_site d (in_fun {G = G} {b = b} {m = m} {f = f} {a = x} {n = n} a) =
       let r = at_range a in
       tail Other (sites G b (m + 1) f ++ sites G b (m + 1 + size f) x) m n d r.0 ∙ left_of _ _ (m + 1) n (size f) d (length-sites G b (m + 1) f) r.0 r.1 ∙ at_site d a
-  at_site d (in-arg {G = G} {b = b} {m = m} {f = f} {a = x} {n = n} a) =
+  at_site d (in_arg {G = G} {b = b} {m = m} {f = f} {a = x} {n = n} a) =
       let r = at_range a in
       let l : m + 1 ≤ n = omega arith in
       tail Other (sites G b (m + 1) f ++ sites G b (m + 1 + size f) x) m n d l ∙ right_of _ _ (m + 1) n (size f) d (length-sites G b (m + 1) f) r.0 ∙ at_site d a
-  at_site d (in-tuple a) = tail _ _ _ _ d (ats_range a).0 ∙ ats_site d a
-  at_site d (in-abs a) = tail _ _ _ _ d (at_range a).0 ∙ at_site d a
+  at_site d (in_tuple a) = tail _ _ _ _ d (ats_range a).0 ∙ ats_site d a
+  at_site d (in_abs a) = tail _ _ _ _ d (at_range a).0 ∙ at_site d a
 
   pub ats_site : {G : Scope} {b m : ℕ} {ts : Terms} {n : ℕ} {H : Scope} {c : ℕ} {s : Term} (d : Site) → Ats G b m ts n H c s → get_or (sitess G b m ts) (n - m) d ≡ site_of H c s
-  ats_site d (in-part {G = G} {b = b} {m = m} {t = t} {n = n} a) =
+  ats_site d (in_part {G = G} {b = b} {m = m} {t = t} {n = n} a) =
       let r = at_range a in
       left_of _ _ m n (size t) d (length-sites G b m t) r.0 r.1 ∙ at_site d a
   ats_site d (in_rest {G = G} {b = b} {m = m} {t = t} {n = n} a) =
@@ -92,31 +92,31 @@ mutual
   locate G b m (gate g) n lo hi = first G b m (gate g) n (omega arith)
   locate G b m (new t) n lo hi = elim (eq-or-lt_of_le lo) [
     | inl e ↦ first G b m (new t) n e
-    | inr h ↦ let r = locate G b (m + 1) t n (omega arith) (omega arith) in record { scope = r.scope; bangs = r.bangs; term = r.term; place = in-new r.place }
+    | inr h ↦ let r = locate G b (m + 1) t n (omega arith) (omega arith) in record { scope = r.scope; bangs = r.bangs; term = r.term; place = in_new r.place }
   ]
   locate G b m (bang t) n lo hi = elim (eq-or-lt_of_le lo) [
     | inl e ↦ first G b m (bang t) n e
-    | inr h ↦ let r = locate G (b + 1) (m + 1) t n (omega arith) (omega arith) in record { scope = r.scope; bangs = r.bangs; term = r.term; place = in-bang r.place }
+    | inr h ↦ let r = locate G (b + 1) (m + 1) t n (omega arith) (omega arith) in record { scope = r.scope; bangs = r.bangs; term = r.term; place = in_bang r.place }
   ]
   locate G b m (app f a) n lo hi = elim (eq-or-lt_of_le lo) [
     | inl e ↦ first G b m (app f a) n e
     | inr h ↦ elim (cases_lt n (m + 1 + size f)) [
-      | inl k ↦ let r = locate G b (m + 1) f n (omega arith) (omega arith) in record { scope = r.scope; bangs = r.bangs; term = r.term; place = in-fun r.place }
-      | inr k ↦ let r = locate G b (m + 1 + size f) a n (omega arith) (omega arith) in record { scope = r.scope; bangs = r.bangs; term = r.term; place = in-arg r.place }
+      | inl k ↦ let r = locate G b (m + 1) f n (omega arith) (omega arith) in record { scope = r.scope; bangs = r.bangs; term = r.term; place = in_fun r.place }
+      | inr k ↦ let r = locate G b (m + 1 + size f) a n (omega arith) (omega arith) in record { scope = r.scope; bangs = r.bangs; term = r.term; place = in_arg r.place }
     ]
   ]
   locate G b m (tuple ts) n lo hi = elim (eq-or-lt_of_le lo) [
     | inl e ↦ first G b m (tuple ts) n e
-    | inr h ↦ let r = locates G b (m + 1) ts n (omega arith) (omega arith) in record { scope = r.scope; bangs = r.bangs; term = r.term; place = in-tuple r.place }
+    | inr h ↦ let r = locates G b (m + 1) ts n (omega arith) (omega arith) in record { scope = r.scope; bangs = r.bangs; term = r.term; place = in_tuple r.place }
   ]
   locate G b m (abs k t) n lo hi = elim (eq-or-lt_of_le lo) [
     | inl e ↦ first G b m (abs k t) n e
-    | inr h ↦ let r = locate (frame m k b ∷ G) b (m + 1) t n (omega arith) (omega arith) in record { scope = r.scope; bangs = r.bangs; term = r.term; place = in-abs r.place }
+    | inr h ↦ let r = locate (frame m k b ∷ G) b (m + 1) t n (omega arith) (omega arith) in record { scope = r.scope; bangs = r.bangs; term = r.term; place = in_abs r.place }
   ]
 
   pub locates : (G : Scope) (b m : ℕ) (ts : Terms) (n : ℕ) → m ≤ n → n < m + sizes ts → Locateds G b m ts n
   locates G b m none n lo hi = absurd (omega arith)
   locates G b m (part t ts) n lo hi = elim (cases_lt n (m + size t)) [
-    | inl k ↦ let r = locate G b m t n lo k in record { scope = r.scope; bangs = r.bangs; term = r.term; place = in-part r.place }
+    | inl k ↦ let r = locate G b m t n lo k in record { scope = r.scope; bangs = r.bangs; term = r.term; place = in_part r.place }
     | inr k ↦ let r = locates G b (m + size t) ts n k (omega arith) in record { scope = r.scope; bangs = r.bangs; term = r.term; place = in_rest r.place }
   ]

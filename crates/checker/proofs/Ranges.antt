@@ -6,7 +6,7 @@ use Rattle.terms.specs.Term.{Term, var, wire, bit, gate, new, bang, app, tuple, 
 use Rattle.terms.specs.Shape.{Shaped, Shapeds}
 use Rattle.checker.specs.declared.site.Site.{Site}
 use Rattle.checker.specs.declared.site.Site.TheVariants.{Other}
-use Rattle.checker.specs.Faults.{Scope, At, Ats, here, in-new, in-bang, in-fun, in-arg, in-tuple, in-abs, in-part, in_rest, NodeAt}
+use Rattle.checker.specs.Faults.{Scope, At, Ats, here, in_new, in_bang, in_fun, in_arg, in_tuple, in_abs, in_part, in_rest, NodeAt}
 use Rattle.checker.specs.Sites.{resolve, site_of, sites}
 use Rattle.checker.specs.Loops.{Numbered, Ranged}
 use Rattle.checker.proofs.Walks.{length-sites}
@@ -17,15 +17,15 @@ use Rattle.checker.proofs.Uses.{Lower, lower_more}
 mutual
   at_lower : {G : Scope} {b m : ℕ} {t : Term} {n : ℕ} {H : Scope} {c : ℕ} {s : Term} → At G b m t n H c s → Lower G m → Lower H n
   at_lower here l = l
-  at_lower (in-new {G = G} {m = m} a) l = at_lower a (lower_more G m (m + 1) (omega arith) l)
-  at_lower (in-bang {G = G} {m = m} a) l = at_lower a (lower_more G m (m + 1) (omega arith) l)
-  at_lower (in-fun {G = G} {m = m} a) l = at_lower a (lower_more G m (m + 1) (omega arith) l)
-  at_lower (in-arg {G = G} {m = m} {f = f} a) l = at_lower a (lower_more G m (m + 1 + size f) (omega arith) l)
-  at_lower (in-tuple {G = G} {m = m} a) l = ats_lower a (lower_more G m (m + 1) (omega arith) l)
-  at_lower (in-abs {G = G} {m = m} a) l = at_lower a (omega arith, lower_more G m (m + 1) (omega arith) l)
+  at_lower (in_new {G = G} {m = m} a) l = at_lower a (lower_more G m (m + 1) (omega arith) l)
+  at_lower (in_bang {G = G} {m = m} a) l = at_lower a (lower_more G m (m + 1) (omega arith) l)
+  at_lower (in_fun {G = G} {m = m} a) l = at_lower a (lower_more G m (m + 1) (omega arith) l)
+  at_lower (in_arg {G = G} {m = m} {f = f} a) l = at_lower a (lower_more G m (m + 1 + size f) (omega arith) l)
+  at_lower (in_tuple {G = G} {m = m} a) l = ats_lower a (lower_more G m (m + 1) (omega arith) l)
+  at_lower (in_abs {G = G} {m = m} a) l = at_lower a (omega arith, lower_more G m (m + 1) (omega arith) l)
 
   ats_lower : {G : Scope} {b m : ℕ} {ts : Terms} {n : ℕ} {H : Scope} {c : ℕ} {s : Term} → Ats G b m ts n H c s → Lower G m → Lower H n
-  ats_lower (in-part a) l = at_lower a l
+  ats_lower (in_part a) l = at_lower a l
   ats_lower (in_rest {G = G} {m = m} {t = t} a) l = ats_lower a (lower_more G m (m + size t) (omega arith) l)
 
 resolve-numbered : (H : Scope) (c u p k : ℕ) → Lower H k → Numbered k (resolve H c u p)
@@ -58,15 +58,15 @@ numbered t n = each_site t (Numbered (size t)) tt (λ k H c s a. site_numbered H
 mutual
   at_shaped : {G : Scope} {b m : ℕ} {t : Term} {n : ℕ} {H : Scope} {c : ℕ} {s : Term} → At G b m t n H c s → Shaped t → Shaped s
   at_shaped here h = h
-  at_shaped (in-new a) h = at_shaped a h
-  at_shaped (in-bang a) h = at_shaped a h
-  at_shaped (in-fun a) h = at_shaped a h.0
-  at_shaped (in-arg a) h = at_shaped a h.1
-  at_shaped (in-tuple a) h = ats_shaped a h.0
-  at_shaped (in-abs a) h = at_shaped a h.1
+  at_shaped (in_new a) h = at_shaped a h
+  at_shaped (in_bang a) h = at_shaped a h
+  at_shaped (in_fun a) h = at_shaped a h.0
+  at_shaped (in_arg a) h = at_shaped a h.1
+  at_shaped (in_tuple a) h = ats_shaped a h.0
+  at_shaped (in_abs a) h = at_shaped a h.1
 
   ats_shaped : {G : Scope} {b m : ℕ} {ts : Terms} {n : ℕ} {H : Scope} {c : ℕ} {s : Term} → Ats G b m ts n H c s → Shapeds ts → Shaped s
-  ats_shaped (in-part a) h = at_shaped a h.0
+  ats_shaped (in_part a) h = at_shaped a h.0
   ats_shaped (in_rest a) h = ats_shaped a h.1
 
 resolve-ranged : (H : Scope) (c u p : ℕ) → p < 8 → Ranged (resolve H c u p)

@@ -4,7 +4,7 @@ use Rattle.terms.specs.Term.{Term, var, wire, bit, gate, new, bang, app, tuple, 
 use Rattle.theory.specs.Acceptance.{Item, slot, lead, same, inner, weigh, weighs, one, uses}
 use Rattle.theory.proofs.Weigh.{weigh_same, weigh-zero, equal_eqb}
 use Rattle.checker.specs.declared.site.Site.TheVariants.{Opening}
-use Rattle.checker.specs.Faults.{Scope, frame, At, Ats, here, in-new, in-bang, in-fun, in-arg, in-tuple, in-abs, in-part, in_rest, NodeAt, Misused, misused}
+use Rattle.checker.specs.Faults.{Scope, frame, At, Ats, here, in_new, in_bang, in_fun, in_arg, in_tuple, in_abs, in_part, in_rest, NodeAt, Misused, misused}
 use Rattle.checker.specs.Sites.{resolve, site_of, sites, sitess}
 use Rattle.checker.specs.Loops.{tally, is_use, MisuseSite}
 use Rattle.checker.proofs.Located.{at_range, ats_range}
@@ -109,21 +109,21 @@ own_here G b m k s p l =
 mutual
   tally_own : {G : Scope} {b m : ℕ} {t : Term} {n : ℕ} {H : Scope} {c : ℕ} {r : Term} (k : ℕ) (s : Term) (p : ℕ) → At G b m t n H c r → r ≡ abs k s → Lower G m → tally (is_use n p) (sites G b m t) ≡ uses (slot 0 p) s
   tally_own k s p (here {G = G} {b = b} {m = m} {t = t}) e l = rw e (own_here G b m k s p l)
-  tally_own k s p (in-new {G = G} {m = m} a) e l = omega (arith, tally_own k s p a e (lower_more G m (m + 1) (omega arith) l))
-  tally_own k s p (in-bang {G = G} {m = m} a) e l = omega (arith, tally_own k s p a e (lower_more G m (m + 1) (omega arith) l))
-  tally_own k s p (in-fun {G = G} {b = b} {m = m} {f = f} {a = x} {n = n} a) e l =
+  tally_own k s p (in_new {G = G} {m = m} a) e l = omega (arith, tally_own k s p a e (lower_more G m (m + 1) (omega arith) l))
+  tally_own k s p (in_bang {G = G} {m = m} a) e l = omega (arith, tally_own k s p a e (lower_more G m (m + 1) (omega arith) l))
+  tally_own k s p (in_fun {G = G} {b = b} {m = m} {f = f} {a = x} {n = n} a) e l =
       let r = at_range a in
       let o : Outside n (m + 1 + size f) (size x) = inl r.1 in
       omega (arith, tally-append (is_use n p) (sites G b (m + 1) f) (sites G b (m + 1 + size f) x), tally_own k s p a e (lower_more G m (m + 1) (omega arith) l), none_outside G b (m + 1 + size f) x n p o (lower_more G m n (omega arith) l))
-  tally_own k s p (in-arg {G = G} {b = b} {m = m} {f = f} {a = x} {n = n} a) e l =
+  tally_own k s p (in_arg {G = G} {b = b} {m = m} {f = f} {a = x} {n = n} a) e l =
       let r = at_range a in
       let o : Outside n (m + 1) (size f) = inr r.0 in
       omega (arith, tally-append (is_use n p) (sites G b (m + 1) f) (sites G b (m + 1 + size f) x), tally_own k s p a e (lower_more G m (m + 1 + size f) (omega arith) l), none_outside G b (m + 1) f n p o (lower_more G m n (omega arith) l))
-  tally_own k s p (in-tuple {G = G} {m = m} a) e l = omega (arith, tally_owns k s p a e (lower_more G m (m + 1) (omega arith) l))
-  tally_own k s p (in-abs {G = G} {m = m} a) e l = omega (arith, tally_own k s p a e (omega arith, lower_more G m (m + 1) (omega arith) l))
+  tally_own k s p (in_tuple {G = G} {m = m} a) e l = omega (arith, tally_owns k s p a e (lower_more G m (m + 1) (omega arith) l))
+  tally_own k s p (in_abs {G = G} {m = m} a) e l = omega (arith, tally_own k s p a e (omega arith, lower_more G m (m + 1) (omega arith) l))
 
   tally_owns : {G : Scope} {b m : ℕ} {ts : Terms} {n : ℕ} {H : Scope} {c : ℕ} {r : Term} (k : ℕ) (s : Term) (p : ℕ) → Ats G b m ts n H c r → r ≡ abs k s → Lower G m → tally (is_use n p) (sitess G b m ts) ≡ uses (slot 0 p) s
-  tally_owns k s p (in-part {G = G} {b = b} {m = m} {t = t} {ts = ts} {n = n} a) e l =
+  tally_owns k s p (in_part {G = G} {b = b} {m = m} {t = t} {ts = ts} {n = n} a) e l =
       let r = at_range a in
       let o : Outside n (m + size t) (sizes ts) = inl r.1 in
       omega (arith, tally-append (is_use n p) (sites G b m t) (sitess G b (m + size t) ts), tally_own k s p a e l, none_outsides G b (m + size t) ts n p o (lower_more G m n r.0 l))

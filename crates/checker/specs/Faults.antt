@@ -1,5 +1,5 @@
 -- Where the nodes of a term stand, and what breaks a rule there.
-use Rattle.std.specs.Prelude.{◌≡◌, ℕ, zero, suc, ◌+◌, ◌<◌, ◌≤◌, List, [], ◌∷◌, ◌≢◌, slice_index, slice_index_or}
+use Rattle.std.specs.Prelude.{◌≡◌, ℕ, zero, suc, ◌+◌, ◌<◌, ◌≤◌, List, [], ◌∷◌, ◌≢◌, slice_index}
 use Rattle.terms.specs.Term.{Term, var, wire, new, bang, app, tuple, abs, Terms, part, size}
 use Rattle.theory.specs.Acceptance.{Patterns, Bound, pattern, uses, slot}
 use Rattle.checker.specs.declared.site.Frame.{Frame}
@@ -20,15 +20,15 @@ frame m k b = record { number = m; pattern = k; depth = b }
 mutual
   pub data At : Scope → ℕ → ℕ → Term → ℕ → Scope → ℕ → Term → Type 0 where
     here : {G : Scope} {b m : ℕ} {t : Term} → At G b m t m G b t
-    in-new : {G : Scope} {b m : ℕ} {t : Term} {n : ℕ} {H : Scope} {c : ℕ} {s : Term} → At G b (m + 1) t n H c s → At G b m (new t) n H c s
-    in-bang : {G : Scope} {b m : ℕ} {t : Term} {n : ℕ} {H : Scope} {c : ℕ} {s : Term} → At G (b + 1) (m + 1) t n H c s → At G b m (bang t) n H c s
-    in-fun : {G : Scope} {b m : ℕ} {f a : Term} {n : ℕ} {H : Scope} {c : ℕ} {s : Term} → At G b (m + 1) f n H c s → At G b m (app f a) n H c s
-    in-arg : {G : Scope} {b m : ℕ} {f a : Term} {n : ℕ} {H : Scope} {c : ℕ} {s : Term} → At G b (m + 1 + size f) a n H c s → At G b m (app f a) n H c s
-    in-tuple : {G : Scope} {b m : ℕ} {ts : Terms} {n : ℕ} {H : Scope} {c : ℕ} {s : Term} → Ats G b (m + 1) ts n H c s → At G b m (tuple ts) n H c s
-    in-abs : {G : Scope} {b m k : ℕ} {t : Term} {n : ℕ} {H : Scope} {c : ℕ} {s : Term} → At (frame m k b ∷ G) b (m + 1) t n H c s → At G b m (abs k t) n H c s
+    in_new : {G : Scope} {b m : ℕ} {t : Term} {n : ℕ} {H : Scope} {c : ℕ} {s : Term} → At G b (m + 1) t n H c s → At G b m (new t) n H c s
+    in_bang : {G : Scope} {b m : ℕ} {t : Term} {n : ℕ} {H : Scope} {c : ℕ} {s : Term} → At G (b + 1) (m + 1) t n H c s → At G b m (bang t) n H c s
+    in_fun : {G : Scope} {b m : ℕ} {f a : Term} {n : ℕ} {H : Scope} {c : ℕ} {s : Term} → At G b (m + 1) f n H c s → At G b m (app f a) n H c s
+    in_arg : {G : Scope} {b m : ℕ} {f a : Term} {n : ℕ} {H : Scope} {c : ℕ} {s : Term} → At G b (m + 1 + size f) a n H c s → At G b m (app f a) n H c s
+    in_tuple : {G : Scope} {b m : ℕ} {ts : Terms} {n : ℕ} {H : Scope} {c : ℕ} {s : Term} → Ats G b (m + 1) ts n H c s → At G b m (tuple ts) n H c s
+    in_abs : {G : Scope} {b m k : ℕ} {t : Term} {n : ℕ} {H : Scope} {c : ℕ} {s : Term} → At (frame m k b ∷ G) b (m + 1) t n H c s → At G b m (abs k t) n H c s
 
   pub data Ats : Scope → ℕ → ℕ → Terms → ℕ → Scope → ℕ → Term → Type 0 where
-    in-part : {G : Scope} {b m : ℕ} {t : Term} {ts : Terms} {n : ℕ} {H : Scope} {c : ℕ} {s : Term} → At G b m t n H c s → Ats G b m (part t ts) n H c s
+    in_part : {G : Scope} {b m : ℕ} {t : Term} {ts : Terms} {n : ℕ} {H : Scope} {c : ℕ} {s : Term} → At G b m t n H c s → Ats G b m (part t ts) n H c s
     in_rest : {G : Scope} {b m : ℕ} {t : Term} {ts : Terms} {n : ℕ} {H : Scope} {c : ℕ} {s : Term} → Ats G b (m + size t) ts n H c s → Ats G b m (part t ts) n H c s
 
 -- The node n of the whole term t.
@@ -65,5 +65,5 @@ Nowhere P = (n : ℕ) → P n → ⊥
 pub record Least (P : ℕ → Type 0) (lines : List ℕ) (l : ℕ) : Type 0 where
   pub node : ℕ
   pub breaks : P node
-  pub line : slice_index_or lines node 0 ≡ l
+  pub line : slice_index lines node ≡ l
   pub first : (n : ℕ) → P n → l ≤ slice_index lines n

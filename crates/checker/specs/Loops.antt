@@ -1,5 +1,5 @@
 -- What the loops of checking find, told from the sites.
-use Rattle.std.specs.Prelude.{◌≡◌, ℕ, ◌+◌, ◌*◌, ◌<◌, ◌≤◌, Bool, true, false, cond, ◌&&◌, ◌⊎◌, List, [], ◌∷◌, length, get_or, take, Some, None, Ok, Err, Option, Result, ◌==◌, nat_le, nat_lt, slice_index, slice_index_or, slice_set}
+use Rattle.std.specs.Prelude.{◌≡◌, ℕ, ◌+◌, ◌*◌, ◌<◌, ◌≤◌, Bool, true, false, cond, ◌&&◌, ◌⊎◌, List, [], ◌∷◌, length, take, Some, None, Ok, Err, Option, Result, ◌==◌, nat_le, nat_lt, slice_index, slice_index_or, slice_set}
 use Rattle.theory.specs.Acceptance.{arity, one}
 use Rattle.sheet.specs.declared.refusal.Rule.{Rule}
 use Rattle.sheet.specs.declared.refusal.Rule.TheVariants.{Form, Size, Part, Unbound, Misused, Shut, Repeated}
@@ -12,7 +12,7 @@ pub record Earliest (P : ℕ → Type 0) (lines : List ℕ) (k l : ℕ) : Type 0
   pub node : ℕ
   pub low : node < k
   pub breaks : P node
-  pub line : get_or lines node 0 ≡ l
+  pub line : slice_index lines node ≡ l
   pub first : (n : ℕ) → n < k → P n → l ≤ slice_index lines n
 
 abbrev pub Found : (ℕ → Type 0) → List ℕ → ℕ → Option ℕ → Type 0
@@ -73,14 +73,14 @@ pub record RepeatSite (xs : List Site) (lines : List ℕ) (n : ℕ) : Type 0 whe
   pub low : other < length xs
   pub here : 1 ≤ is_lead wire (slice_index_or xs n Other)
   pub there : 1 ≤ is_lead wire (slice_index_or xs other Other)
-  pub less : get_or lines other 0 < slice_index lines n
+  pub less : slice_index lines other < slice_index lines n
 
 -- A wire that stands among the first k sites on the line l.
 pub record Stood (xs : List Site) (lines : List ℕ) (k w l : ℕ) : Type 0 where
   pub node : ℕ
   pub low : node < k
   pub here : 1 ≤ is_lead w (slice_index_or xs node Other)
-  pub line : get_or lines node 0 ≡ l
+  pub line : slice_index lines node ≡ l
 
 -- The smallest line of each wire among the first k sites, or 65535.
 pub record Firsts (xs : List Site) (lines : List ℕ) (F : List ℕ) (k : ℕ) : Type 0 where
@@ -131,7 +131,7 @@ pub record MisuseSite (xs : List Site) (n : ℕ) : Type 0 where
   pub pattern : ℕ
   pub place : ℕ
   pub low : place < pattern
-  pub here : get_or xs n Other ≡ Opening pattern
+  pub here : slice_index_or xs n Other ≡ Opening pattern
   pub off : tally (is_use n place) xs ≡ 1 → ⊥
 
 -- The uses of the places 0 to 7 of each binder among the first k sites.
@@ -173,7 +173,7 @@ Ranged (Opening k) = k ≤ 8
 pub record OffAt (C : List ℕ) (start k : ℕ) : Type 0 where
   pub place : ℕ
   pub low : place < k
-  pub off : get_or C (start + place) 0 ≡ 1 → ⊥
+  pub off : slice_index C (start + place) ≡ 1 → ⊥
 
 abbrev pub OffOnce : List ℕ → ℕ → ℕ → Bool → Type 0
 OffOnce C start k true = OffAt C start k

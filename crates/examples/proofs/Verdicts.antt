@@ -12,7 +12,7 @@ use Rattle.sheet.specs.Entry.{Entry, InRange, Each, Proper}
 use Rattle.sheet.specs.Sheet.{text, times, line_ends, used, Earlier, Says}
 use Rattle.sheet.specs.Reading.{first_line, later_line, line, no_parts, more_parts}
 use Rattle.sheet.specs.declared.refusal.Rule.TheVariants.{Unbound as Rule-Unbound, Misused as Rule-Misused, Shut as Rule-Shut, Repeated as Rule-Repeated}
-use Rattle.checker.specs.Faults.{here, in-bang, in-tuple, in-abs, in-part, in_rest, unbound, Misused, misused, shut_variable, Repeated, repeated}
+use Rattle.checker.specs.Faults.{here, in_bang, in_tuple, in_abs, in_part, in_rest, unbound, Misused, misused, shut_variable, Repeated, repeated}
 use Rattle.checker.proofs.Showing.{site_is, within-size, unbound-shown, shut_shown}
 use Rattle.checker.proofs.Faultless.{bounded_none, once_none, clear_none}
 use Rattle.examples.specs.Table.{sheet, ReadsAs, Table}
@@ -117,7 +117,7 @@ table = record {
   linear_unused = record { term = _; lines = _; reads = linear_unused_reads; rule = Rule-Misused; numbered = refl; breaks = (bounded_none _ tt, record { node = 0; breaks = misused {p = 0} here (omega arith) (λ e. omega arith); line = refl; first = misused_first }) };
   bang_unused = record { term = _; lines = _; reads = bang_unused_reads; accepted = (accepted_is_tested _).1 refl };
   no_binder = record { term = _; lines = _; reads = no_binder_reads; rule = Rule-Unbound; numbered = refl; breaks = record { node = 0; breaks = unbound here (λ b. b); line = refl; first = λ n f. on_line (1 ∷ []) (omega arith, tt) n ((unbound-shown _).low n f) } };
-  bang_inside = record { term = _; lines = _; reads = bang_inside_reads; rule = Rule-Shut; numbered = refl; breaks = (bounded_none _ (omega arith), once_none _ (tt, once_inside), record { node = 2; breaks = shut_variable (in-abs (in-bang here)) (omega arith) (omega arith); line = refl; first = λ n f. on_line (3 ∷ (2 ∷ (1 ∷ []))) (omega arith, (omega arith, (omega arith, tt))) n ((shut_shown _).low n f) }) };
+  bang_inside = record { term = _; lines = _; reads = bang_inside_reads; rule = Rule-Shut; numbered = refl; breaks = (bounded_none _ (omega arith), once_none _ (tt, once_inside), record { node = 2; breaks = shut_variable (in_abs (in_bang here)) (omega arith) (omega arith); line = refl; first = λ n f. on_line (3 ∷ (2 ∷ (1 ∷ []))) (omega arith, (omega arith, (omega arith, tt))) n ((shut_shown _).low n f) }) };
   bang_outside = record { term = _; lines = _; reads = bang_outside_reads; accepted = (accepted_is_tested _).1 refl };
-  wire_twice = record { term = _; lines = _; reads = wire_twice_reads; rule = Rule-Repeated; numbered = refl; breaks = (bounded_none _ (tt, (tt, tt)), once_none _ (tt, (tt, tt)), clear_none _ (tt, (tt, tt)), record { node = 2; breaks = repeated (in-tuple (in_rest (in-part here))) (in-tuple (in-part here)) (omega arith); line = refl; first = repeated_first }) };
+  wire_twice = record { term = _; lines = _; reads = wire_twice_reads; rule = Rule-Repeated; numbered = refl; breaks = (bounded_none _ (tt, (tt, tt)), once_none _ (tt, (tt, tt)), clear_none _ (tt, (tt, tt)), record { node = 2; breaks = repeated (in_tuple (in_rest (in_part here))) (in_tuple (in_part here)) (omega arith); line = refl; first = repeated_first }) };
 }

@@ -1,12 +1,12 @@
 -- A text cut at the first byte `stop`, and a sheet cut into its lines.
-use Rattle.std.specs.Prelude.{◌≡◌, ℕ, ◌+◌, ◌<◌, ◌≤◌, Bool, true, false, List, ◌∷◌, ◌++◌, length, take, drop, Some, None, Option, slice_index_or}
+use Rattle.std.specs.Prelude.{◌≡◌, ℕ, ◌+◌, ◌<◌, ◌≤◌, Bool, true, false, List, ◌∷◌, ◌++◌, length, take, drop, Some, None, Option, slice_index}
 use Rattle.std.specs.Borrow.{Bor}
 use Rattle.sheet.specs.Sheet.{times}
 
 -- The first `stop` stands at the place i.
 pub record First (stop : ℕ) (bs : List ℕ) (i : ℕ) : Type 0 where
   pub within : i < length bs
-  pub here : slice_index_or bs i 0 ≡ stop
+  pub here : slice_index bs i ≡ stop
   pub before : times stop (take i bs) ≡ 0
 
 abbrev pub Finds : ℕ → List ℕ → Option ℕ → Type 0
