@@ -4,11 +4,11 @@ use borrow.Author.Tests.{clash}
 use Rattle.std.proofs.lemmas.List.{get_or-set_same, get_or-set_other, take_more, length-take-le, take_all}
 use Rattle.std.proofs.lemmas.Bool.{cases_eq}
 use Rattle.theory.specs.Acceptance.{one}
+use Rattle.theory.proofs.Equivalence.{one_le}
 use Rattle.checker.specs.declared.site.Site.{Site}
 use Rattle.checker.specs.declared.site.Site.TheVariants.{Other, Free, Use, Lead, Opening}
 use Rattle.checker.specs.Loops.{tally, is_use, MisuseSite, Counted, counted_in, Countable, Numbered, Ranged, MisuseTold}
 use Rattle.checker.proofs.Tally.{tally-append}
-use Rattle.checker.proofs.Faultless.{one_top}
 
 tally-top : (q : Site → ℕ) (xs : List Site) → ((x : Site) → q x ≤ 1) → tally q xs ≤ length xs
 tally-top q [] b = zero-le
@@ -17,7 +17,7 @@ tally-top q (x ∷ xs) b = omega (arith, b x, tally-top q xs b)
 use-top : (m p : ℕ) (x : Site) → is_use m p x ≤ 1
 use-top m p Other = zero-le
 use-top m p Free = zero-le
-use-top m p (Use n k q x) = one_top (eqb m n && eqb p q)
+use-top m p (Use n k q x) = one_le (eqb m n && eqb p q)
 use-top m p (Lead w x) = zero-le
 use-top m p (Opening n) = zero-le
 

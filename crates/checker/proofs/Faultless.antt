@@ -1,10 +1,11 @@
 -- No fault at any node: the properties of an accepted term.
 use Rattle.std.proofs.Common.{◌≡◌, ℕ, zero, suc, ◌+◌, ◌<◌, ◌≤◌, Bool, true, false, cond, ltb, [], ◌∷◌, sym, refl, ap, ◌∙◌, inl, inr, zero-le, le_refl, arith, le-ltb, lt-ltb}
 use borrow.Author.Tests.{clash}
-use Rattle.std.proofs.lemmas.Bool.{cases_Bool, cases_eq}
+use Rattle.std.proofs.lemmas.Bool.{cases_Bool, cases_eq, false_from_ne_true}
 use Rattle.terms.specs.Term.{Term, var, wire, bit, gate, new, bang, app, tuple, abs, Terms, none, part, size}
 use Rattle.theory.specs.Acceptance.{Item, slot, lead, below, inner, weigh, weighs, one, uses, linear, Patterns, Bound, bound, pattern, Bounded, Boundeds, Once, Onces, Clear, Clears}
 use Rattle.theory.proofs.Weigh.{below_ltb, weigh_same, weigh-zero, weigh_le}
+use Rattle.theory.proofs.Equivalence.{one_le}
 use Rattle.theory.proofs.Tested.{decides_bound}
 use Rattle.checker.specs.Faults.{Scope, patterns, frame, At, Ats, here, in_new, in_bang, in_fun, in_arg, in_tuple, in_abs, in_part, in_rest, Unbound, unbound, Misused, misused, Shut, shut_variable, shut_wire, Nowhere}
 use Rattle.checker.specs.Sites.{resolve, site_of}
@@ -124,13 +125,9 @@ more_slot [] b u p h = le_refl _
 more_slot (f ∷ G) b zero p h = let l : f.depth < b + 1 = omega (arith, h.0) in one_cond (ltb f.depth b) (ltb f.depth (b + 1)) (ltb p f.pattern) (λ _. lt-ltb f.depth (b + 1) l)
 more_slot (f ∷ G) b (suc u) p h = more_slot G b u p h.1
 
-pub one_top : (x : Bool) → one x ≤ 1
-one_top true = le_refl _
-one_top false = zero-le
-
 strained_more : (G : Scope) (b : ℕ) → Shallow G b → (i : Item) → strained G b i ≤ strained G (b + 1) i
 strained_more G b h (slot u p) = more_slot G b u p h
-strained_more G b h (lead k) = let l : 0 < b + 1 = omega arith in rw (lt-ltb 0 (b + 1) l) (one_top (ltb 0 b))
+strained_more G b h (lead k) = let l : 0 < b + 1 = omega arith in rw (lt-ltb 0 (b + 1) l) (one_le (ltb 0 b))
 
 strained-inner : (G : Scope) (b m k : ℕ) (i : Item) → strained (frame m k b ∷ G) b i ≡ inner (strained G b) i
 strained-inner G b m k (slot zero p) = let l : b ≤ b = omega arith in rw (le-ltb b b l) refl
@@ -180,12 +177,8 @@ mutual
   ats_clear (in_part a) d h w = at_clear a d h.0 (omega arith)
   ats_clear (in_rest a) d h w = ats_clear a d h.1 (omega arith)
 
-not_true_false : (x : Bool) → (x ≡ true → ⊥) → x ≡ false
-not_true_false true h = absurd (h refl)
-not_true_false false h = refl
-
 pub no_shut : (t : Term) → Nowhere (Shut t) → Clear [] t
-no_shut t h = (clear [] 0 0 t tt (λ n H c s a. not_true_false _ (λ e. h n (shut_of t n H c s a e)))).0
+no_shut t h = (clear [] 0 0 t tt (λ n H c s a. false_from_ne_true _ (λ e. h n (shut_of t n H c s a e)))).0
 
 top : (i : Item) → strained [] 0 i ≡ 0
 top (slot u p) = refl

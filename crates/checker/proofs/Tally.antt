@@ -3,6 +3,7 @@ use Rattle.std.proofs.Common.{◌≡◌, ℕ, zero, suc, ◌+◌, ◌<◌, ◌�
 use Rattle.std.proofs.lemmas.Bool.{cases_lt, cases_order}
 use Rattle.terms.specs.Term.{Term, var, wire, bit, gate, new, bang, app, tuple, abs, Terms, none, part, size}
 use Rattle.theory.specs.Acceptance.{lead, same, weighs, one, uses, Apart, Accepted}
+use Rattle.theory.proofs.Equivalence.{one_le}
 use Rattle.theory.proofs.Weigh.{weigh_same, equal_eqb}
 use Rattle.theory.proofs.Tested.{inner-lead, accepted_is_proper}
 use Rattle.checker.specs.declared.site.Site.{Site}
@@ -12,7 +13,7 @@ use Rattle.checker.specs.Sites.{resolve, site_of, sites, sitess}
 use Rattle.checker.specs.Loops.{tally, is_lead}
 use Rattle.checker.proofs.Walks.{length-sites}
 use Rattle.checker.proofs.Showing.{site_is, within-size, located}
-use Rattle.checker.proofs.Faultless.{no_unbound, bounded_none, no_misuse, once_none, no_shut, clear_none, one_top}
+use Rattle.checker.proofs.Faultless.{no_unbound, bounded_none, no_misuse, once_none, no_shut, clear_none}
 
 pub tally-append : (q : Site → ℕ) (xs ys : List Site) → tally q (xs ++ ys) ≡ tally q xs + tally q ys
 tally-append q [] ys = omega arith
@@ -89,7 +90,7 @@ lead-top : (k : ℕ) (x : Site) → is_lead k x ≤ 1
 lead-top k Other = zero-le
 lead-top k Free = zero-le
 lead-top k (Use m j p x) = zero-le
-lead-top k (Lead w x) = one_top (eqb k w)
+lead-top k (Lead w x) = one_le (eqb k w)
 lead-top k (Opening n) = zero-le
 
 pub one_is : (b : Bool) → 1 ≤ one b → b ≡ true

@@ -84,8 +84,6 @@ pub fn check(
 }
 
 /// A program breaks one rule first, at one line: there is no other verdict than the one that `check` gives.
-pub fn verdict_is_determined() -> u8
+pub fn verdict_is_determined()
     ensures { VerdictIsDetermined }
-{
-    0
-}
+{}

@@ -1,20 +1,17 @@
 -- That the chip is lawful, and that operations of its can follow one another. These are proofs, for the prover and not for
 -- the reader; they stand here since the ghost members of the machine name them.
-use Rattle.std.specs.Prelude.{◌≡◌, ℕ, ◌/◌, ◌%◌, ◌^◌, Bool, true, false, ◌&&◌, List, [], ◌∷◌, ◌++◌, ◌==◌, nat_lt, refl}
+use Rattle.std.specs.Prelude.{◌≡◌, ℕ, ◌/◌, ◌%◌, ◌^◌, Bool, List, [], ◌∷◌, ◌++◌, ◌==◌, nat_lt, refl}
 use Rattle.std.proofs.Common.{sym, ap, subst, ◌∙◌, ltb-true, lt_of_lt_of_le, lit≤}
+use Rattle.std.proofs.lemmas.Bool.{and_parts}
 use Rattle.machines.specs.Machine.{Lawful, with_wire}
 use Rattle.machines.specs.Operation.{Operation, granted_wires}
 use Rattle.machines.proofs.Grants.{granted-append}
 use Rattle.chip.specs.Chip.{in_mask, with_wires, EachHighest, chip_meaning, Fills}
 use Rattle.chip.specs.declared.ChipMachine.{ChipMachine}
 
-in_first : (b c : Bool) → (b && c) ≡ true → b ≡ true
-in_first true c e = refl
-in_first false c e = e
-
 pub chip_lawful : (x : ChipMachine) → Lawful (chip_meaning x)
 chip_lawful x = record {
-  wires = λ v e. lt_of_lt_of_le (ltb-true v 64 (in_first (nat_lt v 64) (x.held / 2 ^ v % 2 == 1) e)) (lit≤ tt);
+  wires = λ v e. lt_of_lt_of_le (ltb-true v 64 (and_parts (nat_lt v 64) (x.held / 2 ^ v % 2 == 1) e).0) (lit≤ tt);
   limit = lit≤ tt;
 }
 

@@ -1,6 +1,6 @@
 -- The bytes of a line write an entry exactly if they are parsed as that entry.
 use Rattle.std.proofs.Common.{◌≡◌, ℕ, ◌-◌, ◌<◌, ◌≤◌, List, [], ◌∷◌, ◌++◌, map, length, get_or, take, drop, Some, None, decimal, Option, sym, refl, ap, ◌∙◌, subst, arith}
-use Rattle.std.proofs.lemmas.List.{append-nil, take_rest, length-map, length-take-le, nil_from_length}
+use Rattle.std.proofs.lemmas.List.{append-nil, take_rest, length-map, nil_from_length}
 use Rattle.terms.specs.Gate.{name, Named}
 use Rattle.terms.specs.declared.Gate.{Gate}
 use Rattle.terms.specs.declared.Kind.{Kind}
@@ -10,6 +10,7 @@ use Rattle.sheet.specs.Entries.{listed, entry, Parsed, Parses}
 use Rattle.sheet.specs.Fields.{Fields, Collects, shape, Shapes}
 use Rattle.sheet.specs.declared.line.Numbers.{Numbers}
 use Rattle.sheet.specs.declared.line.Line.{Line}
+use Rattle.sheet.proofs.Listed.{listed-length}
 use Rattle.sheet.proofs.Collecting.{one_list}
 use Rattle.sheet.proofs.Shaping.{byte, letter-byte, numbers, Numeric, numeric, complete, sound}
 
@@ -68,9 +69,6 @@ two_bytes : (xs : List ℕ) → 2 ≤ length xs → get_or xs 1 0 ≡ 9 → xs �
 two_bytes [] l e = absurd (omega arith)
 two_bytes (x ∷ []) l e = absurd (omega arith)
 two_bytes (x ∷ y ∷ xs) l e = rw (take_rest (x ∷ y ∷ xs) 2, e) refl
-
-listed-length : (m : Numbers) → length (listed m) ≡ m.count
-listed-length m = length-take-le m.count m.list (omega (arith, m.few, m.full))
 
 module _ (xs : List ℕ) (long : 2 ≤ length xs) (tab : get_or xs 1 0 ≡ 9) where
   opened : (e : Entry) → xs ≡ written e → Splits (get_or xs 0 0) (9 ∷ after_tab xs) e

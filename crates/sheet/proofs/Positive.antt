@@ -1,10 +1,11 @@
 -- Each number of a list is at least 1, as a test.
-use Rattle.std.proofs.Common.{◌≡◌, ℕ, zero, suc, ◌+◌, ◌<◌, ◌≤◌, true, false, ltb, List, [], ◌∷◌, ◌++◌, length, get_or, take, sym, refl, ◌∙◌, arith}
+use Rattle.std.proofs.Common.{◌≡◌, ℕ, zero, suc, ◌+◌, ◌<◌, true, false, ltb, List, [], ◌∷◌, ◌++◌, length, get_or, take, sym, refl, ◌∙◌, arith}
 use Rattle.std.proofs.lemmas.Bool.{le-ltb, lt-ltb, and_right, and_parts, and_from}
-use Rattle.std.proofs.lemmas.List.{length-take-le, take_more, get_or-take}
+use Rattle.std.proofs.lemmas.List.{take_more}
 use Rattle.sheet.specs.Entries.{listed}
 use Rattle.sheet.specs.Fields.{positive}
 use Rattle.sheet.specs.declared.line.Numbers.{Numbers}
+use Rattle.sheet.proofs.Listed.{listed-length, get_or-listed}
 
 zero_among : (ns : List ℕ) (i : ℕ) → i < length ns → get_or ns i 0 ≡ 0 → false ≡ positive ns
 zero_among [] i l e = absurd (omega arith)
@@ -19,6 +20,4 @@ pub positive_more : (xs : List ℕ) (i : ℕ) → i < length xs → positive (ta
 positive_more xs i l h p = rw (take_more xs i 0 l) (positive_push (take i xs) (get_or xs i 0) h p)
 
 pub not_positive : (m : Numbers) (i : ℕ) → i < m.count → get_or m.list i 0 ≡ 0 → false ≡ positive (listed m)
-not_positive m i l e =
-    let h : m.count ≤ length m.list = omega (arith, m.few, m.full) in
-    zero_among (listed m) i (omega (arith, length-take-le m.count m.list h)) (get_or-take m.count m.list i 0 l ∙ e)
+not_positive m i l e = zero_among (listed m) i (omega (arith, listed-length m)) (get_or-listed m i l ∙ e)

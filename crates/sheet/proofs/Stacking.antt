@@ -1,6 +1,6 @@
 -- A stack of lines whose terms are still to come.
 use Rattle.std.proofs.Common.{◌≡◌, ℕ, suc, ◌+◌, ◌-◌, ◌<◌, ◌≤◌, List, [], ◌∷◌, ◌++◌, reverse, length, get_or, drop, sym, refl, ap, ◌∙◌, subst, append_assoc, append-nil, arith, length-append}
-use Rattle.std.proofs.lemmas.List.{reverse-append, reverse-reverse, length-reverse, drop_more, length-map, length-take-le}
+use Rattle.std.proofs.lemmas.List.{reverse-append, reverse-reverse, length-reverse, drop_more, length-map}
 use Rattle.terms.specs.Term.{Term, Terms, none, part}
 use Rattle.terms.specs.Flat.{flat, flats, node_of, kind_of, parts}
 use Rattle.terms.specs.declared.Node.{Node}
@@ -11,6 +11,7 @@ use Rattle.sheet.specs.Entries.{listed, entry, entries}
 use Rattle.sheet.specs.Reading.{Line, first_line, later_line, Writes, Write, line, no_parts, more_parts}
 use Rattle.sheet.specs.Tables.{Tabled}
 use Rattle.sheet.specs.declared.line.Line.{Line as CodeLine}
+use Rattle.sheet.proofs.Listed.{listed-length}
 use Rattle.sheet.proofs.Times.{few}
 use Rattle.sheet.proofs.Writing.{WrittenTerm, written-term, writes-once, writes-range, line-range}
 
@@ -162,7 +163,7 @@ turn xs stack rest n nodes lines p e u =
       stack_room = λ x d.
           let q : (kind_of t.term, t.below) ≡ entry x = line-entry t.says xs x refl ∙ ap entry (sym d) in
           let k : length t.below ≡ length (listed x.parts) = ap (λ (y : Entry). length y.1) q in
-          omega (arith, length-take-le x.parts.count x.parts.list (omega arith), length-reverse rest);
+          omega (arith, listed-length x.parts, length-reverse rest);
       next = λ x d after nodes' lines' f g h.
           let q : (kind_of t.term, t.below) ≡ entry x = line-entry t.says xs x refl ∙ ap entry (sym d) in
           steps es stack rest after n nodes nodes' lines lines' u t

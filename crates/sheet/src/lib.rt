@@ -81,8 +81,6 @@ pub fn read(sheet: &[u8], storage: &mut ReadStorage, place: &mut Program) -> Res
 }
 
 /// The definition of reading gives each sheet one answer only, the one that `read` gives.
-pub fn reading_is_determined() -> u8
+pub fn reading_is_determined()
     ensures { ReadingIsDetermined }
-{
-    0
-}
+{}

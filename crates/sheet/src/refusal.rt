@@ -45,9 +45,7 @@ impl Rule {
             Rule::Repeated => 17,
         }
     }
-}
 
-impl Rule {
     /// What is wrong with a sheet that breaks the rule.
     fn reason(self) -> &'static str
         ensures { result.now ≡ reason self }

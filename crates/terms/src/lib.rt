@@ -175,8 +175,6 @@ pub enum StepKind {
 }
 
 /// One table of nodes stands for at most one term.
-pub fn table_has_one_tree() -> u8
+pub fn table_has_one_tree()
     ensures { TableHasOneTree }
-{
-    0
-}
+{}
