@@ -6,20 +6,20 @@ ghost use Rattle.terms.specs.Gate.{code, width, Named};
 ghost use Rattle.terms.specs.Flat.{part_count};
 ghost use Rattle.terms.specs.Parse.{TableHasOneTree};
 
-/// A gate of the gate book.
+/// A gate of the gate book, with its number there.
 #[derive(Clone, Copy, PartialEq, Eq, Debug)]
 pub enum Gate {
-    H,
-    X,
-    Z,
-    S,
-    Sdg,
-    T,
-    Tdg,
-    Cx,
-    Cz,
-    Swap,
-    Ccx,
+    H = 0,
+    X = 1,
+    Z = 2,
+    S = 3,
+    Sdg = 4,
+    T = 5,
+    Tdg = 6,
+    Cx = 7,
+    Cz = 8,
+    Swap = 9,
+    Ccx = 10,
 }
 
 impl Gate {
@@ -27,19 +27,7 @@ impl Gate {
     pub fn code(self) -> u8
         ensures { result ≡ code self }
     {
-        match self {
-            Gate::H => 0,
-            Gate::X => 1,
-            Gate::Z => 2,
-            Gate::S => 3,
-            Gate::Sdg => 4,
-            Gate::T => 5,
-            Gate::Tdg => 6,
-            Gate::Cx => 7,
-            Gate::Cz => 8,
-            Gate::Swap => 9,
-            Gate::Ccx => 10,
-        }
+        self as u8
     }
 
     /// How many wires the gate takes.
@@ -54,47 +42,30 @@ impl Gate {
     }
 
     /// The gate whose name `bytes` are.
+    // No `TryFrom`: a name that is no gate's needs no error of its own.
     pub fn named(bytes: &[u8]) -> Option<Gate>
         ensures { Named bytes.now result }
     {
-        if bytes == b"H".as_slice() {
-            return Some(Gate::H);
+        match bytes {
+            b"H" => Some(Gate::H),
+            b"X" => Some(Gate::X),
+            b"Z" => Some(Gate::Z),
+            b"S" => Some(Gate::S),
+            b"SDG" => Some(Gate::Sdg),
+            b"T" => Some(Gate::T),
+            b"TDG" => Some(Gate::Tdg),
+            b"CX" => Some(Gate::Cx),
+            b"CZ" => Some(Gate::Cz),
+            b"SWAP" => Some(Gate::Swap),
+            b"CCX" => Some(Gate::Ccx),
+            _ => None,
         }
-        if bytes == b"X".as_slice() {
-            return Some(Gate::X);
-        }
-        if bytes == b"Z".as_slice() {
-            return Some(Gate::Z);
-        }
-        if bytes == b"S".as_slice() {
-            return Some(Gate::S);
-        }
-        if bytes == b"SDG".as_slice() {
-            return Some(Gate::Sdg);
-        }
-        if bytes == b"T".as_slice() {
-            return Some(Gate::T);
-        }
-        if bytes == b"TDG".as_slice() {
-            return Some(Gate::Tdg);
-        }
-        if bytes == b"CX".as_slice() {
-            return Some(Gate::Cx);
-        }
-        if bytes == b"CZ".as_slice() {
-            return Some(Gate::Cz);
-        }
-        if bytes == b"SWAP".as_slice() {
-            return Some(Gate::Swap);
-        }
-        if bytes == b"CCX".as_slice() {
-            return Some(Gate::Ccx);
-        }
-        None
     }
 }
 
 /// A wire, by its number, 0 to 4,095.
+// The bound is no ghost field and the number no `Model`: terms in specs/ have wires of any number, and `Shaped` tells which
+// are in range; and a `Copy` type that holds one with a `Model` is not copied where it is passed and used again.
 #[derive(Clone, Copy, PartialEq, Eq, Debug)]
 pub struct Wire {
     number: u16,
@@ -102,6 +73,7 @@ pub struct Wire {
 
 impl Wire {
     /// The wire of this number, if there is one.
+    // No `TryFrom`: as with std's `NonZero::new`, `None` says all that an error could.
     pub fn new(number: u16) -> Option<Wire>
         ensures { MatchOption result (4096 ≤ number) (λ w. (number < 4096) × (w.number ≡ number)) }
     {
@@ -135,6 +107,7 @@ pub enum Kind {
     /// A tuple of 2 to 8 parts.
     Tuple(u8),
     /// A binder by its pattern: 0 bang, 1 single, 2 to 8 a tuple of that many variables.
+    // No enum: the number is how many linear variables the binder has, and the rules compare places with it.
     Binder(u8),
 }
 
@@ -150,15 +123,10 @@ impl Node {
         ensures { result ≡ part_count self }
     {
         match self.kind {
-            Kind::Variable { place: _, up: _ } => 0,
-            Kind::Wire(_) => 0,
-            Kind::Constant(_) => 0,
-            Kind::Gate(_) => 0,
-            Kind::New => 1,
-            Kind::Bang => 1,
+            Kind::Variable { .. } | Kind::Wire(_) | Kind::Constant(_) | Kind::Gate(_) => 0,
+            Kind::New | Kind::Bang | Kind::Binder(_) => 1,
             Kind::Application => 2,
             Kind::Tuple(parts) => parts as usize,
-            Kind::Binder(_) => 1,
         }
     }
 }
