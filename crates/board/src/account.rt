@@ -1,40 +1,30 @@
 //! What a sheet has in it.
-ghost use Rattle.std.specs.Prelude.{◌≡◌, ℕ, ◌<◌};
-ghost use Rattle.board.specs.Account.{index, Counted};
+ghost use Rattle.std.specs.Prelude.{◌≡◌, ◌==◌, count_by};
+ghost use Rattle.board.specs.Account.{letter_of};
 
-use terms::{Kind, Node};
+use sheet::located::LocatedNode;
+use terms::Kind;
 
-/// How many nodes of each kind there are, in the order variable, wire, constant, gate, new, bang, application, tuple,
-/// binder.
-#[derive(Drop)]
-pub struct Account {
-    pub counts: [usize; 9],
-}
-
-/// The place of a kind in an account.
-fn index(kind: Kind) -> usize
-    ensures { result ≡ index kind }
+/// The letter of a kind's lines in a sheet.
+fn letter(kind: Kind) -> char
+    ensures { result ≡ letter_of kind }
 {
     match kind {
-        Kind::Variable { place: _, up: _ } => 0,
-        Kind::Wire(_) => 1,
-        Kind::Constant(_) => 2,
-        Kind::Gate(_) => 3,
-        Kind::New => 4,
-        Kind::Bang => 5,
-        Kind::Application => 6,
-        Kind::Tuple(_) => 7,
-        Kind::Binder(_) => 8,
+        Kind::Variable { .. } => 'v',
+        Kind::Wire(_) => 'w',
+        Kind::Constant(_) => 'c',
+        Kind::Gate(_) => 'g',
+        Kind::New => 'n',
+        Kind::Bang => 'b',
+        Kind::Application => 'a',
+        Kind::Tuple(_) => 't',
+        Kind::Binder(_) => 'l',
     }
 }
 
-/// Counts the nodes of each kind.
-pub fn count_kinds(nodes: &[Node]) -> Account
-    ensures { Counted nodes.now result.counts }
+/// How many nodes there are of the kind with this letter.
+pub fn count_kind(table: &[LocatedNode], of: char) -> usize
+    ensures { result ≡ count_by (λ x. letter_of x.node.kind == of) table.now }
 {
-    let mut counts = [0; 9];
-    for node in nodes {
-        counts[index(node.kind)] += 1;
-    }
-    Account { counts }
+    table.iter().filter(|x| letter(x.node.kind) == of).count()
 }

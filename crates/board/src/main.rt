@@ -1,8 +1,9 @@
 //! The board: reads a program sheet from standard input, and prints what became of it.
 #![tactic(auto)]
 
-use account::{Account, count_kinds};
+use account::count_kind;
 use intake::intake::Intake;
+use sheet::located::LocatedNode;
 use sheet::refusal::Refusal;
 use std::io::Read;
 
@@ -11,7 +12,7 @@ mod account;
 /// One byte more than a program sheet may have.
 const MOST: u64 = 65_537;
 
-/// The letters of the kinds, in the order of an account.
+/// The letters of the kinds, in the order in which they are printed.
 const LETTERS: [char; 9] = ['v', 'w', 'c', 'g', 'n', 'b', 'a', 't', 'l'];
 
 fn print_refusal(rt: &HostRuntime, refusal: Refusal) -> anyhow::Result<()> {
@@ -22,14 +23,12 @@ fn print_refusal(rt: &HostRuntime, refusal: Refusal) -> anyhow::Result<()> {
     Ok(())
 }
 
-fn print_account(rt: &HostRuntime, account: &Account) -> anyhow::Result<()> {
-    let mut nodes = 0usize;
-    for count in &account.counts {
-        nodes = nodes.saturating_add(*count);
-    }
-    let wires = account.counts[1];
+fn print_account(rt: &HostRuntime, table: &[LocatedNode]) -> anyhow::Result<()> {
+    let nodes = table.len();
+    let wires = count_kind(table, 'w');
     println!(rt; "A\t{nodes}\t{nodes}\t{wires}")?;
-    for (letter, count) in LETTERS.iter().zip(account.counts.iter()) {
+    for letter in LETTERS {
+        let count = count_kind(table, letter);
         println!(rt; "K\t{letter}\t{count}")?;
     }
     Ok(())
@@ -42,9 +41,6 @@ fn main(rt: HostRuntime) -> anyhow::Result<()> {
     let mut intake = Intake::new(heap)?;
     match intake.take_in(sheet.as_slice()) {
         Err(refusal) => print_refusal(&rt, refusal),
-        Ok(()) => print_account(
-            &rt,
-            &count_kinds(intake.accepted.program.nodes().as_slice()),
-        ),
+        Ok(()) => print_account(&rt, intake.accepted.program.table().as_slice()),
     }
 }
