@@ -1,5 +1,5 @@
 //! What machines do: the operations, and how a call is refused.
-ghost use Rattle.std.specs.Prelude.{Decides, nat_eq};
+ghost use Rattle.std.specs.Prelude.{◌≡◌, Decides, nat_eq};
 ghost use Rattle.std.specs.List.{IsDistinct};
 ghost use Rattle.machines.specs.Operation.{numbers, Listed};
 
@@ -40,6 +40,16 @@ pub enum GateRefusal {
     Misnamed,
     /// The machine does not allow the gate on these wires.
     Forbidden,
+}
+
+impl From<Full> for GateRefusal {
+    ghost use Rattle.machines.specs.declared.operation.GateRefusal.TheVariants.{Full as IsFull};
+
+    ghost from_gives = { λ _ r. r ≡ IsFull };
+
+    fn from(_full: Full) -> GateRefusal {
+        GateRefusal::Full
+    }
 }
 
 impl Operands {
