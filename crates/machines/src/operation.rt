@@ -57,25 +57,23 @@ impl Operands {
     pub fn of(wires: &[Wire]) -> Option<Operands>
         ensures { Listed wires.now result }
     {
-        match wires.len() {
-            1 => Some(Operands::One(wires[0])),
-            2 => Some(Operands::Two(wires[0], wires[1])),
-            3 => Some(Operands::Three(wires[0], wires[1], wires[2])),
+        match *wires {
+            [a] => Some(Operands::One(a)),
+            [a, b] => Some(Operands::Two(a, b)),
+            [a, b, c] => Some(Operands::Three(a, b, c)),
             _ => None,
         }
     }
 
     /// Whether no two of the wires are the same.
+    #[tactic(auto, using(crate::proofs::Operands::one_distinct, crate::proofs::Operands::two_distinct, crate::proofs::Operands::three_distinct))]
     pub fn distinct(self) -> bool
         ensures { Decides result (IsDistinct nat_eq (numbers self)) }
     {
         match self {
             Operands::One(_) => true,
-            Operands::Two(a, b) => a.number() != b.number(),
-            Operands::Three(a, b, c) => {
-                let (x, y, z) = (a.number(), b.number(), c.number());
-                (x != y) & (x != z) & (y != z)
-            }
+            Operands::Two(a, b) => a != b,
+            Operands::Three(a, b, c) => (a != b) & (a != c) & (b != c),
         }
     }
 }
