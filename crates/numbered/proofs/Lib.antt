@@ -1,2 +1,2 @@
 pub mod Numbers
-pub mod Records
+pub mod Writing

@@ -3,4 +3,5 @@
 
 pub mod counting;
 pub mod list;
-mod numbering;
+pub mod numbering;
+pub mod records;
