@@ -1,2 +1,3 @@
 pub mod Counts
 pub mod Operands
+pub mod Writing

@@ -1,15 +1,17 @@
 -- Machines that are composed of their wires and of a journal.
+use Rattle.std.specs.Prelude.{ℕ, Option}
 use Rattle.machines.specs.Machine.{Meaning}
+use Rattle.machines.specs.Operation.{Operation}
 use Rattle.machines.specs.Wires.{Supply}
-use Rattle.machines.specs.Journal.{Account}
 
--- What such a machine means: of the wires, what its wires say, and of the operations, what its journal says.
-abbrev pub composed : Supply → Account → Meaning
-composed s a = record {
+-- What such a machine means, by its wires, by how many operations it has made, and by the last and the most operations that
+-- its journal tells.
+abbrev pub composed : Supply → ℕ → Option Operation → ℕ → Meaning
+composed s made last most = record {
   held = s.held;
-  made = a.made;
-  last = a.last;
+  made = made;
+  last = last;
   most_wires = s.most;
-  most_operations = a.most;
+  most_operations = most;
   allowed = s.allowed;
 }

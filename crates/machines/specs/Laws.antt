@@ -1,17 +1,18 @@
 -- That composed machines are lawful, and that operations can follow one another. These are proofs, for the prover and not for
 -- the reader; they stand here since the ghost members of machines and journals name them.
-use Rattle.std.specs.Prelude.{◌≡◌, ℕ, ◌+◌, List, [], ◌∷◌, ◌++◌, length, refl}
-use Rattle.std.proofs.Common.{sym, ap, ◌∙◌, subst, append_assoc, add_assoc, add-zero, length-append}
+use Rattle.std.specs.Prelude.{◌≡◌, ℕ, ◌+◌, List, [], ◌∷◌, ◌++◌, length, take, drop, map, Option, refl}
+use Rattle.std.specs.Borrow.{MutBor}
+use Rattle.std.proofs.Common.{sym, ap, ◌∙◌, subst, append-nil, append_assoc, add_assoc, add-zero, length-append, drop-drop}
 use Rattle.machines.specs.Composed.{composed}
-use Rattle.machines.specs.Journal.{Account}
+use Rattle.machines.specs.Listing.{written, unwritten, Writes}
 use Rattle.machines.specs.Machine.{Lawful}
 use Rattle.machines.specs.Operation.{Operation, granted_by, granted_wires}
-use Rattle.machines.specs.Tally.{Counts}
 use Rattle.machines.specs.Wires.{Supply, Bounded}
-use Rattle.machines.specs.declared.journal.Tally.{Tally}
+use Rattle.machines.specs.declared.operation.Operation.{Operation as Record}
+use Rattle.machines.specs.declared.journal.Last.{Last}
 
-pub composed_lawful : (s : Supply) (a : Account) → Bounded s → Lawful (composed s a)
-composed_lawful s a b = record { wires = b.wires; limit = b.limit }
+pub composed_lawful : (s : Supply) (made : ℕ) (last : Option Operation) (most : ℕ) → Bounded s → Lawful (composed s made last most)
+composed_lawful s made last most b = record { wires = b.wires; limit = b.limit }
 
 -- The wires that operations grant.
 granted-append : (os ps : List Operation) → granted_wires (os ++ ps) ≡ granted_wires os ++ granted_wires ps
@@ -20,16 +21,37 @@ granted-append (o ∷ os) ps =
     ap (λ l. granted_by o.action o.wires ++ l) (granted-append os ps)
     ∙ sym (append_assoc (granted_by o.action o.wires) (granted_wires os) (granted_wires ps))
 
-pub goes_on : (P : List ℕ → Type 0) (os ps : List Operation) → P (granted_wires os ++ granted_wires ps) → P (granted_wires (os ++ ps))
-goes_on P os ps h = subst P (sym (granted-append os ps)) h
+pub wires_go : (P : List ℕ → Type 0) (os ps : List Operation) → P (granted_wires os ++ granted_wires ps) → P (granted_wires (os ++ ps))
+wires_go P os ps h = subst P (sym (granted-append os ps)) h
 
--- One number is more than another by a list's length, and a third more than that by another's: so it is more by both.
-pub both_lengths : {A : Type 0} (a b c : ℕ) (xs ys : List A) → b ≡ a + length xs → c ≡ b + length ys → c ≡ a + length (xs ++ ys)
-both_lengths a b c xs ys e f =
-    f ∙ ap (λ n. n + length ys) e ∙ add_assoc a (length xs) (length ys) ∙ ap (λ n. a + n) (sym (length-append xs ys))
+-- A number of operations, and operations after it.
+pub count_stays : (n : ℕ) → n ≡ n + 0
+count_stays n = sym (add-zero n)
 
-pub counts_stay : (x : Tally) → Counts x [] x
-counts_stay x = record { made = sym (add-zero x.made); most = refl }
+both : {A : Type 0} (n : ℕ) (xs ys : List A) → n + length xs + length ys ≡ n + length (xs ++ ys)
+both n xs ys = add_assoc n (length xs) (length ys) ∙ ap (λ k. n + k) (sym (length-append xs ys))
 
-pub counts_go : (x y z : Tally) (os ps : List Operation) → Counts x os y → Counts y ps z → Counts x (os ++ ps) z
-counts_go x y z os ps a b = record { made = both_lengths x.made y.made z.made os ps a.made b.made; most = b.most ∙ a.most }
+pub count_goes : {A : Type 0} (a b c : ℕ) (xs ys : List A) → b ≡ a + length xs → c ≡ b + length ys → c ≡ a + length (xs ++ ys)
+count_goes a b c xs ys e f = f ∙ ap (λ n. n + length ys) e ∙ both a xs ys
+
+pub later : (P : ℕ → Type 0) {m n : ℕ} → m ≡ n → P m → P n
+later P e h = subst P e h
+
+pub last_stays : (x : Last) (n : ℕ) → x.most ≡ x.most
+last_stays x n = refl
+
+pub last_goes : (x y z : Last) (n : ℕ) (os ps : List Operation) → y.most ≡ x.most → z.most ≡ y.most → z.most ≡ x.most
+last_goes x y z n os ps a b = b ∙ a
+
+pub writes_stay : (x : MutBor (List Record)) (n : ℕ) → Writes x n [] x
+writes_stay x n = record { adds = ap (written x) (add-zero n) ∙ sym (append-nil (written x n)); leaves = ap (unwritten x) (add-zero n); loan = refl }
+
+pub writes_go : (x y z : MutBor (List Record)) (n : ℕ) (os ps : List Operation) → Writes x n os y → Writes y (n + length os) ps z → Writes x n (os ++ ps) z
+writes_go x y z n os ps a b = record {
+  adds = ap (written z) (sym (both n os ps)) ∙ b.adds ∙ ap (λ l. l ++ ps) a.adds ∙ append_assoc (written x n) os ps;
+  leaves =
+      ap (unwritten z) (sym (both n os ps)) ∙ b.leaves ∙ ap (drop (length ps)) a.leaves
+      ∙ drop-drop (length ps) (length os) (unwritten x n)
+      ∙ ap (λ k. drop k (unwritten x n)) (sym (length-append os ps));
+  loan = b.loan ∙ a.loan;
+}

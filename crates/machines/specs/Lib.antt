@@ -1,7 +1,6 @@
 pub mod Operation
 pub mod Machine
 pub mod Wires
-pub mod Journal
-pub mod Tally
+pub mod Listing
 pub mod Composed
 pub mod Laws

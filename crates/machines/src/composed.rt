@@ -1,69 +1,111 @@
 //! Machines that are composed of their wires and of a journal.
-ghost use Rattle.std.specs.Prelude.{◌≡◌};
-ghost use Rattle.machines.specs.Operation.{granted_wires};
-ghost use Rattle.machines.specs.Composed.{composed};
-ghost use Rattle.machines.specs.Laws.{composed_lawful, goes_on};
+ghost use Rattle.std.specs.Prelude.{◌≡◌, ◌+◌, ◌<◌, ◌↔◌, length, IsOk, OnOk};
 
-use crate::journal::Journal;
+use crate::journal::{Journal, Last};
 use crate::machine::GateMachine;
 use crate::operation::{Action, Full, GateRefusal, Operands, Operation};
 use crate::wires::Wires;
 use terms::{Gate, Wire};
 
-/// A machine that takes its wires from `wires`, and enters its operations into `journal`.
+/// A machine that takes its wires from `wires`, counts its operations, and writes them into `journal`.
 #[derive(Drop)]
 pub struct Machine<W, J> {
     wires: W,
+    made: usize,
     journal: J,
 }
 
 impl<W: Wires, J: Journal> Machine<W, J> {
-    /// A machine of these wires and this journal.
+    /// A machine of these wires and this journal, which has made no operation.
     pub fn new(wires: W, journal: J) -> Machine<W, J>
-        ensures { result ≡ record { wires = wires; journal = journal } }
+        ensures { result ≡ record { wires = wires; made = 0; journal = journal } }
     {
-        Machine { wires, journal }
+        Machine {
+            wires,
+            made: 0,
+            journal,
+        }
     }
 
-    /// The journal of the machine's operations.
-    pub fn journal(&self) -> &J
-        ensures { result.now ≡ self.now.journal }
+    // Whether there is room for one more operation.
+    fn room(&self) -> Result<(), Full>
+        ensures room { IsOk result ↔ self.now.made < J.most self.now.journal }
+        ensures fits { OnOk result (self.now.made < usize.MAX) }
     {
-        &self.journal
+        if self.made < self.journal.most() {
+            Ok(())
+        } else {
+            Err(Full)
+        }
+    }
+}
+
+impl<W> Machine<W, Last> {
+    ghost use Rattle.std.specs.Option.{option_map};
+
+    /// The last operation, if there was one.
+    pub fn last(&self) -> Option<&Operation>
+        ensures { option_map (λ x. x.now) result ≡ self.now.journal.operation }
+    {
+        self.journal.operation()
+    }
+}
+
+impl<'a, W> Machine<W, &'a mut [Operation]> {
+    ghost use Rattle.std.specs.Prelude.{take};
+
+    /// The records written so far, one for each operation.
+    pub fn records(&self) -> &[Operation]
+        ensures { result.now ≡ take self.now.made self.now.journal.now }
+    {
+        let made = self.made.min(self.journal.len());
+        &self.journal[..made]
     }
 }
 
 impl<W: Wires, J: Journal> GateMachine for Machine<W, J> {
-    ghost meaning = { λ m. composed (W.supply m.wires) (J.account m.journal) };
+    ghost use Rattle.machines.specs.Operation.{granted_wires};
+    ghost use Rattle.machines.specs.Composed.{composed};
+    ghost use Rattle.machines.specs.Laws.{composed_lawful, wires_go, count_stays, count_goes, later};
 
-    ghost lawful = { λ m. composed_lawful (W.supply m.wires) (J.account m.journal) (W.bounded m.wires) };
+    ghost meaning = { λ m. composed (W.supply m.wires) m.made (J.last m.journal m.made) (J.most m.journal) };
 
-    ghost makes = { λ x os y. record { wires : W.takes x.wires (granted_wires os) y.wires; journal : J.enters x.journal os y.journal } };
+    ghost makes = { λ x os y. record { wires : W.takes x.wires (granted_wires os) y.wires; made : y.made ≡ x.made + length os; journal : J.writes x.journal x.made os y.journal } };
 
-    ghost stays = { λ x. record { wires = W.stays x.wires; journal = J.stays x.journal } };
+    ghost lawful = { λ m. composed_lawful (W.supply m.wires) m.made (J.last m.journal m.made) (J.most m.journal) (W.bounded m.wires) };
 
-    ghost goes = { λ x y z os ps a b. record { wires = goes_on (λ ws. W.takes x.wires ws z.wires) os ps (W.goes x.wires y.wires z.wires (granted_wires os) (granted_wires ps) a.wires b.wires); journal = J.goes x.journal y.journal z.journal os ps a.journal b.journal } };
+    ghost stays = { λ x. record { wires = W.stays x.wires; made = count_stays x.made; journal = J.stays x.journal x.made } };
+
+    ghost goes = { λ x y z os ps a b. record {
+        wires = wires_go (λ ws. W.takes x.wires ws z.wires) os ps (W.goes x.wires y.wires z.wires (granted_wires os) (granted_wires ps) a.wires b.wires);
+        made = count_goes x.made y.made z.made os ps a.made b.made;
+        journal = J.goes x.journal y.journal z.journal x.made os ps a.journal (later (λ n. J.writes y.journal n ps z.journal) a.made b.journal);
+    } };
 
     fn grant(&mut self, constant: bool) -> Result<Wire, Full> {
-        self.journal.room()?;
+        self.room()?;
         let wire = self.wires.take()?;
-        self.journal.enter(Operation {
+        let operation = Operation {
             action: Action::Grant(constant),
             operands: Operands::One(wire),
-        })?;
+        };
+        self.journal.write(self.made, operation)?;
+        self.made += 1;
         Ok(wire)
     }
 
     fn apply(&mut self, gate: Gate, wires: &[Wire]) -> Result<(), GateRefusal> {
-        self.journal.room()?;
+        self.room()?;
         let operands = self.named(gate, wires).ok_or(GateRefusal::Misnamed)?;
         if !self.wires.allows(gate, operands) {
             return Err(GateRefusal::Forbidden);
         }
-        self.journal.enter(Operation {
+        let operation = Operation {
             action: Action::Gate(gate),
             operands,
-        })?;
+        };
+        self.journal.write(self.made, operation)?;
+        self.made += 1;
         Ok(())
     }
 

@@ -1,90 +1,121 @@
 //! What a machine keeps of its operations.
-ghost use Rattle.std.specs.Prelude.{◌≡◌, min, None, List, [], ◌++◌};
+ghost use Rattle.std.specs.Prelude.{◌≡◌, ℕ, ◌+◌, ◌<◌, ◌↔◌, min, length, Some, None, Option, List, [], ◌∷◌, ◌++◌, IsOk, OnOk, OnErr};
 ghost use Rattle.std.specs.Option.{option_map};
 ghost use Rattle.machines.specs.Machine.{operation_limit};
 ghost use Rattle.machines.specs.Operation.{Operation as Made, told};
-ghost use Rattle.machines.specs.Journal.{Account, HasRoom, Enters, entered};
 
 use crate::machine::MOST_OPERATIONS;
 use crate::operation::{Full, Operation};
 
-/// A journal of the operations that a machine makes.
+/// What is kept of the operations that a machine makes.
 pub trait Journal {
-    /// How many operations were made, the last of them, and the most.
-    ghost account: { Self → Account };
+    /// The most operations.
+    ghost most: { Self → ℕ };
 
-    /// What is known besides of operations that are entered: `enters x os y` tells of x, of the operations os that are
-    /// entered, and of y, which it then is.
-    ghost enters: { Self → List Made → Self → Type 0 };
+    /// The last of so many operations.
+    ghost last: { Self → ℕ → Option Made };
 
-    /// Whether there is room for one more operation.
-    fn room(&self) -> Result<(), Full>
-        ensures { HasRoom result (account self.now) };
+    /// What is known besides of operations that are written: `writes x n os y` tells of x after n operations, of the
+    /// operations os that are then written, and of y, which it then is.
+    ghost writes: { Self → ℕ → List Made → Self → Type 0 };
 
-    /// Enters an operation.
-    fn enter(&mut self, operation: Operation) -> Result<(), Full>
-        ensures account { Enters (told operation) result (account self.old) (account self.new) }
-        ensures enters { enters self.old (entered (told operation) result) self.new };
+    /// The most operations that it takes.
+    fn most(&self) -> usize
+        ensures { result ≡ most self.now };
 
-    /// No operation can be entered.
-    ghost stays: { (x : Self) → enters x [] x };
+    /// Writes an operation after `made` others.
+    fn write(&mut self, made: usize, operation: Operation) -> Result<(), Full>
+        ensures room { IsOk result ↔ made < most self.old }
+        ensures most { most self.new ≡ most self.old }
+        ensures last { OnOk result (last self.new (made + 1) ≡ Some (told operation)) }
+        ensures writes { OnOk result (writes self.old made (told operation ∷ []) self.new) }
+        ensures full { OnErr result (self.new ≡ self.old) };
 
-    /// Operations can be entered after others.
-    ghost goes: { (x y z : Self) (os ps : List Made) → enters x os y → enters y ps z → enters x (os ++ ps) z };
+    /// No operation can be written.
+    ghost stays: { (x : Self) (n : ℕ) → writes x n [] x };
+
+    /// Operations can be written after others.
+    ghost goes: { (x y z : Self) (n : ℕ) (os ps : List Made) → writes x n os y → writes y (n + length os) ps z → writes x n (os ++ ps) z };
 }
 
-/// A journal that only counts the operations, and has the last one.
+/// Of the operations only the last one is kept.
 #[derive(Drop)]
-pub struct Tally {
-    made: u32,
-    most: u32,
-    last: Option<Operation>,
+pub struct Last {
+    most: usize,
+    operation: Option<Operation>,
 }
 
-impl Tally {
-    /// No operation was made. It takes at most `most` operations, of which more than 2,000,000 count as 2,000,000.
-    pub fn new(most: u32) -> Tally
-        ensures { result ≡ record { made = 0; most = min most operation_limit; last = None } }
+impl Last {
+    /// There was no operation. There can be `most`, of which more than 2,000,000 count as 2,000,000.
+    pub fn new(most: u32) -> Last
+        ensures { result ≡ record { most = min most operation_limit; operation = None } }
     {
-        Tally {
-            made: 0,
-            most: most.min(MOST_OPERATIONS),
-            last: None,
+        Last {
+            most: most.min(MOST_OPERATIONS) as usize,
+            operation: None,
         }
     }
 
     /// The last operation, if there was one.
-    pub fn last(&self) -> Option<&Operation>
-        ensures { option_map (λ x. x.now) result ≡ self.now.last }
+    pub fn operation(&self) -> Option<&Operation>
+        ensures { option_map (λ x. x.now) result ≡ self.now.operation }
     {
-        self.last.as_ref()
+        self.operation.as_ref()
     }
 }
 
-impl Journal for Tally {
-    ghost use Rattle.machines.specs.Tally.{tally_account, Counts};
-    ghost use Rattle.machines.specs.Laws.{counts_stay, counts_go};
+impl Journal for Last {
+    ghost most = { λ x. x.most };
 
-    ghost account = { tally_account };
+    ghost last = { λ x _. option_map told x.operation };
 
-    ghost enters = { Counts };
+    ghost writes = { λ x _ _ y. y.most ≡ x.most };
 
-    ghost stays = { counts_stay };
+    ghost use Rattle.machines.specs.Laws.{last_stays, last_goes};
 
-    ghost goes = { counts_go };
+    ghost stays = { last_stays };
 
-    fn room(&self) -> Result<(), Full> {
-        if self.made < self.most {
-            Ok(())
-        } else {
-            Err(Full)
-        }
+    ghost goes = { last_goes };
+
+    fn most(&self) -> usize {
+        self.most
     }
 
-    fn enter(&mut self, operation: Operation) -> Result<(), Full> {
-        self.room()?;
-        self.made += 1;
-        self.last = Some(operation);
+    fn write(&mut self, made: usize, operation: Operation) -> Result<(), Full> {
+        if made >= self.most {
+            return Err(Full);
+        }
+        self.operation = Some(operation);
+        Ok(())
+    }
+}
+
+/// A list that was lent: each operation is written into it, from its front on. There can be as many operations as it has
+/// records, of which more than 2,000,000 count as 2,000,000.
+impl<'a> Journal for &'a mut [Operation] {
+    ghost use Rattle.machines.specs.Listing.{list_most, list_last, Writes};
+    ghost use Rattle.machines.specs.Laws.{writes_stay, writes_go};
+
+    ghost most = { list_most };
+
+    ghost last = { list_last };
+
+    ghost writes = { Writes };
+
+    ghost stays = { writes_stay };
+
+    ghost goes = { writes_go };
+
+    fn most(&self) -> usize {
+        self.len().min(MOST_OPERATIONS as usize)
+    }
+
+    #[tactic(auto, using(crate::proofs::Writing::adds, crate::proofs::Writing::leaves, crate::proofs::Writing::last))]
+    fn write(&mut self, made: usize, operation: Operation) -> Result<(), Full> {
+        if made >= self.most() {
+            return Err(Full);
+        }
+        self[made] = operation;
         Ok(())
     }
 }
