@@ -8,7 +8,7 @@ ghost use Rattle.machines.specs.Operation.{number};
 
 use crate::mask::Mask;
 use machines::composed::Machine;
-use machines::journal::Tally;
+use machines::journal::Last;
 use machines::machine::GateMachine;
 use machines::operation::{Full, Operands};
 use machines::wires::Wires;
@@ -19,16 +19,16 @@ mod mask;
 /// How many wires a chip has.
 const WIRES: usize = 64;
 
-/// The 64 wires of a chip. The free wire with the largest number is taken, and gates of width 1 are allowed, and of width 2
-/// on coupled wires.
-#[derive(Clone, Copy)]
+/// The 64 wires of a chip, and which of them are coupled.
+#[derive(Drop)]
 pub struct Chip {
     held: Mask,
     couplings: [u64; WIRES],
 }
 
-/// A chip of 64 wires, which only counts its operations.
-pub type ChipMachine = Machine<Chip, Tally>;
+/// A machine of 64 wires, of which it grants the free one with the largest number. It allows gates of width 1, and of width 2
+/// on coupled wires.
+pub type ChipMachine = Machine<Chip, Last>;
 
 /// Holds the wires of the mask `held`, takes at most `most_operations` operations, of which more than 2,000,000 count as
 /// 2,000,000, and couples two wires if the mask of one in `couplings` has the other.
@@ -39,7 +39,7 @@ pub fn chip_machine(held: u64, most_operations: u32, couplings: [u64; WIRES]) ->
         held: Mask(held),
         couplings,
     };
-    Machine::new(chip, Tally::new(most_operations))
+    Machine::new(chip, Last::new(most_operations))
 }
 
 impl Chip {

@@ -1,5 +1,6 @@
 //! The chip machine at its limits.
-use chip::ChipMachine;
+use crate::first_grant;
+use chip::chip_machine;
 use machines::machine::GateMachine;
 use machines::operation::{Full, GateRefusal};
 use std::test::Fail;
@@ -20,17 +21,14 @@ const FIRST: [(u64, u32, Option<u16>); 8] = [
 #[test]
 fn first_grants(rt: HostRuntime) {
     for (held, most_operations, first) in FIRST {
-        let mut machine = ChipMachine::new(held, most_operations, [0; 64]);
-        match machine.grant(false) {
-            Ok(wire) => assert_eq!(rt; Some(wire.number()), first),
-            Err(Full) => assert_eq!(rt; None, first),
-        }
+        let machine = chip_machine(held, most_operations, [0; 64]);
+        assert_eq!(rt; first_grant(machine, false), first);
     }
 }
 
 #[test]
 fn a_chip_fills_from_above(rt: HostRuntime) -> Result<(), Fail> {
-    let mut machine = ChipMachine::new(0, 100, [0; 64]);
+    let mut machine = chip_machine(0, 100, [0; 64]);
     for left in (0..64u16).rev() {
         match machine.grant(false) {
             Ok(wire) => assert_eq!(rt; wire.number(), left),
@@ -66,7 +64,7 @@ fn couplings(rt: HostRuntime) -> Result<(), Fail> {
         for number in numbers {
             wires.push(Wire::new(*number).ok_or("no such wire")?)?;
         }
-        let mut machine = ChipMachine::new(0xff, 1, table);
+        let mut machine = chip_machine(0xff, 1, table);
         assert_eq!(rt; machine.apply(gate, wires.as_slice()), answer);
         let once_more = if answer == Ok(()) {
             Err(GateRefusal::Full)

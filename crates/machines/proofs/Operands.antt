@@ -1,5 +1,5 @@
 -- Wires as operands.
-use Rattle.std.proofs.Common.{◌≡◌, ℕ, true, not, ◌&&◌, nat_eq, [], ◌∷◌, Decides, refl, ap}
+use Rattle.std.proofs.Common.{ℕ, true, not, ◌&&◌, nat_eq, [], ◌∷◌, Decides, refl, ap}
 use Rattle.std.specs.List.{IsDistinct}
 use Rattle.std.proofs.lemmas.Bool.{not-true, and_parts}
 

@@ -1,6 +1,6 @@
 -- That composed machines are lawful, and that operations can follow one another. These are proofs, for the prover and not for
 -- the reader; they stand here since the ghost members of machines and journals name them.
-use Rattle.std.specs.Prelude.{◌≡◌, ℕ, ◌+◌, List, [], ◌∷◌, ◌++◌, length, take, drop, map, Option, refl}
+use Rattle.std.specs.Prelude.{◌≡◌, ℕ, ◌+◌, List, [], ◌∷◌, ◌++◌, length, drop, Option, refl}
 use Rattle.std.specs.Borrow.{MutBor}
 use Rattle.std.proofs.Common.{sym, ap, ◌∙◌, subst, append-nil, append_assoc, add_assoc, add-zero, length-append, drop-drop}
 use Rattle.machines.specs.Composed.{composed}

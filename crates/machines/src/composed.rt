@@ -1,5 +1,5 @@
 //! Machines that are composed of their wires and of a journal.
-ghost use Rattle.std.specs.Prelude.{◌≡◌, ◌+◌, ◌<◌, ◌↔◌, length, IsOk, OnOk};
+ghost use Rattle.std.specs.Prelude.{◌≡◌, ◌+◌, ◌<◌, ◌≤◌, ◌↔◌, length, IsOk, OnOk};
 
 use crate::journal::{Journal, Last};
 use crate::machine::GateMachine;
@@ -9,16 +9,19 @@ use terms::{Gate, Wire};
 
 /// A machine that takes its wires from `wires`, counts its operations, and writes them into `journal`.
 #[derive(Drop)]
-pub struct Machine<W, J> {
+pub struct Machine<W, J: Journal> {
     wires: W,
     made: usize,
     journal: J,
+    ghost within: { made ≤ J.most journal },
 }
 
 impl<W: Wires, J: Journal> Machine<W, J> {
     /// A machine of these wires and this journal, which has made no operation.
     pub fn new(wires: W, journal: J) -> Machine<W, J>
-        ensures { result ≡ record { wires = wires; made = 0; journal = journal } }
+        ensures wires { result.wires ≡ wires }
+        ensures made { result.made ≡ 0 }
+        ensures journal { result.journal ≡ journal }
     {
         Machine {
             wires,
@@ -58,8 +61,7 @@ impl<'a, W> Machine<W, &'a mut [Operation]> {
     pub fn records(&self) -> &[Operation]
         ensures { result.now ≡ take self.now.made self.now.journal.now }
     {
-        let made = self.made.min(self.journal.len());
-        &self.journal[..made]
+        &self.journal[..self.made]
     }
 }
 
@@ -77,9 +79,9 @@ impl<W: Wires, J: Journal> GateMachine for Machine<W, J> {
     ghost stays = { λ x. record { wires = W.stays x.wires; made = count_stays x.made; journal = J.stays x.journal x.made } };
 
     ghost goes = { λ x y z os ps a b. record {
-        wires = wires_go (λ ws. W.takes x.wires ws z.wires) os ps (W.goes x.wires y.wires z.wires (granted_wires os) (granted_wires ps) a.wires b.wires);
-        made = count_goes x.made y.made z.made os ps a.made b.made;
-        journal = J.goes x.journal y.journal z.journal x.made os ps a.journal (later (λ n. J.writes y.journal n ps z.journal) a.made b.journal);
+      wires = wires_go (λ ws. W.takes x.wires ws z.wires) os ps (W.goes x.wires y.wires z.wires (granted_wires os) (granted_wires ps) a.wires b.wires);
+      made = count_goes x.made y.made z.made os ps a.made b.made;
+      journal = J.goes x.journal y.journal z.journal x.made os ps a.journal (later (λ n. J.writes y.journal n ps z.journal) a.made b.journal);
     } };
 
     fn grant(&mut self, constant: bool) -> Result<Wire, Full> {

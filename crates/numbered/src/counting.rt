@@ -5,11 +5,11 @@ ghost use Rattle.numbered.specs.Numbered.{fresh_numbered};
 
 use crate::numbering::Numbering;
 use machines::composed::Machine;
-use machines::journal::Tally;
+use machines::journal::Last;
 use machines::machine::GateMachine;
 
 /// A machine that grants the wires 0, 1, 2 and so on, allows all gates, and only counts.
-pub type CountingMachine = Machine<Numbering, Tally>;
+pub type CountingMachine = Machine<Numbering, Last>;
 
 /// Holds the wires below `start`, and takes at most `most_wires` wires and `most_operations` operations. More than
 /// 4,096 wires count as 4,096, more than 2,000,000 operations as 2,000,000, and a start over the most wires as these.
@@ -19,6 +19,6 @@ pub fn counting_machine(start: u32, most_wires: u32, most_operations: u32) -> Co
 {
     Machine::new(
         Numbering::new(start, most_wires),
-        Tally::new(most_operations),
+        Last::new(most_operations),
     )
 }

@@ -4,4 +4,3 @@
 pub mod counting;
 pub mod list;
 pub mod numbering;
-pub mod records;

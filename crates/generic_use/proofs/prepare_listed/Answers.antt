@@ -5,8 +5,17 @@ use Rattle.generic_use.proofs.prepare_listed.Goals as goal
 
 pub returns-clause-front : goal.returns-clause-front
 returns-clause-front c =
-    let h = c.list-1.given in
-    let k = c.list_machine-machine.ensures.loan in
-    let l = c.prepare.ensures.makes.journal.loan in
-    let t = c.prepare.type_inv in
-    ?
+    let before = c.list_machine-machine.result in
+    let after = c.prepare.new.machine in
+    let writes = c.prepare.ensures.makes.journal in
+    let loan = writes.loan in
+    list_front before.journal after.journal before.made (prepared c.prepare.result) _ c.list_machine-machine.ensures.made writes (search rules)
+
+pub returns-clause-rest : goal.returns-clause-rest
+returns-clause-rest c =
+    let before = c.list_machine-machine.result in
+    let after = c.prepare.new.machine in
+    let writes = c.prepare.ensures.makes.journal in
+    let loan = writes.loan in
+    let os = prepared c.prepare.result in
+    list_rest before.journal after.journal before.made os _ c.list_machine-machine.ensures.made writes (search rules) ∙ ap (drop (length os)) c.list_machine-machine.ensures.list
