@@ -1,9 +1,9 @@
 -- What follows from the interface of machines.
 use Rattle.std.proofs.Common.{◌≡◌, ℕ, ◌+◌, Bool, ◌||◌, List, [], ◌∷◌, ◌++◌, map, length, take, drop, Err, Result, sym, refl, ap, ◌∙◌, subst, arith, eq-eqb}
-use Rattle.std.specs.List.{range_with_len, IsDistinct}
+use Rattle.std.specs.List.{IsDistinct}
 use Rattle.terms.specs.declared.Gate.TheVariants.{H}
 use Rattle.machines.specs.Machine.{Meaning, Granted, Applies, WellNamed}
-use Rattle.machines.specs.Operation.{Operation, granted_wires, told}
+use Rattle.machines.specs.Operation.{Operation, told}
 use Rattle.machines.specs.declared.operation.GateRefusal.{GateRefusal}
 use Rattle.machines.specs.declared.operation.GateRefusal.TheVariants.{Misnamed}
 use Rattle.machines.specs.declared.operation.Operation.{Operation as Record}
