@@ -32,9 +32,7 @@ impl Tariff for Noise {
     }
 
     fn join(&self, a: Grade, b: Grade) -> Grade {
-        Grade {
-            value: a.value.max(b.value),
-        }
+        a.max(b)
     }
 
     fn charge(&self, kind: StepKind) -> Grade {
