@@ -1,5 +1,5 @@
 //! The counting machine at its limits.
-use crate::first_grant;
+use crate::granted;
 use machines::machine::GateMachine;
 use machines::operation::{Action, GateRefusal, Operands, Operation};
 use numbered::counting::counting_machine;
@@ -23,8 +23,8 @@ const FIRST: [(u32, u32, u32, Option<u16>); 10] = [
 #[test]
 fn first_grants(rt: HostRuntime) {
     for (start, most_wires, most_operations, first) in FIRST {
-        let machine = counting_machine(start, most_wires, most_operations);
-        assert_eq!(rt; first_grant(machine, true), first);
+        let mut machine = counting_machine(start, most_wires, most_operations);
+        assert_eq!(rt; granted(&mut machine, true), first);
     }
 }
 

@@ -13,8 +13,8 @@ mod counts;
 #[cfg(test)]
 mod lists;
 
-// The number of the first wire that a machine grants, if it grants one.
+// The number of the wire that a machine grants, if it grants one.
 #[cfg(test)]
-fn first_grant<M: GateMachine + Drop>(mut machine: M, constant: bool) -> Option<u16> {
+fn granted<M: GateMachine>(machine: &mut M, constant: bool) -> Option<u16> {
     machine.grant(constant).ok().map(|wire| wire.number())
 }

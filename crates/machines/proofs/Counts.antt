@@ -12,13 +12,6 @@ module _ (s : ℕ → Bool) (n : ℕ) where
   unfolding counted
   counted_out e = ap (λ b. cond b 1 0 + counted s n) e ∙ omega arith
 
--- Sets with the same numbers below n.
-pub counted_same : (s t : ℕ → Bool) (n : ℕ) → ((v : ℕ) → v < n → s v ≡ t v) → counted s n ≡ counted t n
-unfolding counted
-counted_same s t zero h = refl
-counted_same s t (suc n) h =
-    ap (λ b. cond b 1 0 + counted s n) (h n (omega arith)) ∙ ap (λ k. cond (t n) 1 0 + k) (counted_same s t n (λ v l. h v (omega arith)))
-
 -- No number from k on is in the set.
 pub counted_past : (s : ℕ → Bool) (k n : ℕ) → k ≤ n → ((v : ℕ) → k ≤ v → s v ≡ false) → counted s n ≡ counted s k
 counted_past s k zero h out = ap (counted s) (omega arith)

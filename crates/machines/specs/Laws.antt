@@ -28,30 +28,27 @@ wires_go P os ps h = subst P (sym (granted-append os ps)) h
 pub count_stays : (n : ℕ) → n ≡ n + 0
 count_stays n = sym (add-zero n)
 
-both : {A : Type 0} (n : ℕ) (xs ys : List A) → n + length xs + length ys ≡ n + length (xs ++ ys)
-both n xs ys = add_assoc n (length xs) (length ys) ∙ ap (λ k. n + k) (sym (length-append xs ys))
-
 pub count_goes : {A : Type 0} (a b c : ℕ) (xs ys : List A) → b ≡ a + length xs → c ≡ b + length ys → c ≡ a + length (xs ++ ys)
-count_goes a b c xs ys e f = f ∙ ap (λ n. n + length ys) e ∙ both a xs ys
-
-pub later : (P : ℕ → Type 0) {m n : ℕ} → m ≡ n → P m → P n
-later P e h = subst P e h
+count_goes a b c xs ys e f =
+    f ∙ ap (λ n. n + length ys) e ∙ add_assoc a (length xs) (length ys) ∙ ap (λ n. a + n) (sym (length-append xs ys))
 
 pub last_stays : (x : Last) (n : ℕ) → x.most ≡ x.most
 last_stays x n = refl
 
-pub last_goes : (x y z : Last) (n : ℕ) (os ps : List Operation) → y.most ≡ x.most → z.most ≡ y.most → z.most ≡ x.most
-last_goes x y z n os ps a b = b ∙ a
+pub last_goes : (x y z : Last) (n m : ℕ) (os ps : List Operation) → m ≡ n + length os → y.most ≡ x.most → z.most ≡ y.most → z.most ≡ x.most
+last_goes x y z n m os ps e a b = b ∙ a
 
 pub writes_stay : (x : MutBor (List Record)) (n : ℕ) → Writes x n [] x
 writes_stay x n = record { adds = ap (written x) (add-zero n) ∙ sym (append-nil (written x n)); leaves = ap (unwritten x) (add-zero n); loan = refl }
 
-pub writes_go : (x y z : MutBor (List Record)) (n : ℕ) (os ps : List Operation) → Writes x n os y → Writes y (n + length os) ps z → Writes x n (os ++ ps) z
-writes_go x y z n os ps a b = record {
-  adds = ap (written z) (sym (both n os ps)) ∙ b.adds ∙ ap (λ l. l ++ ps) a.adds ∙ append_assoc (written x n) os ps;
-  leaves =
-      ap (unwritten z) (sym (both n os ps)) ∙ b.leaves ∙ ap (drop (length ps)) a.leaves
-      ∙ drop-drop (length ps) (length os) (unwritten x n)
-      ∙ ap (λ k. drop k (unwritten x n)) (sym (length-append os ps));
-  loan = b.loan ∙ a.loan;
-}
+pub writes_go : (x y z : MutBor (List Record)) (n m : ℕ) (os ps : List Operation) → m ≡ n + length os → Writes x n os y → Writes y m ps z → Writes x n (os ++ ps) z
+writes_go x y z n m os ps e a b =
+    let all = count_goes n m (m + length ps) os ps e refl in
+    record {
+      adds = ap (written z) (sym all) ∙ b.adds ∙ ap (λ k. written y k ++ ps) e ∙ ap (λ l. l ++ ps) a.adds ∙ append_assoc (written x n) os ps;
+      leaves =
+          ap (unwritten z) (sym all) ∙ b.leaves ∙ ap (λ k. drop (length ps) (unwritten y k)) e ∙ ap (drop (length ps)) a.leaves
+          ∙ drop-drop (length ps) (length os) (unwritten x n)
+          ∙ ap (λ k. drop k (unwritten x n)) (sym (length-append os ps));
+      loan = b.loan ∙ a.loan;
+    }

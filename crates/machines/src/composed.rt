@@ -68,7 +68,7 @@ impl<'a, W> Machine<W, &'a mut [Operation]> {
 impl<W: Wires, J: Journal> GateMachine for Machine<W, J> {
     ghost use Rattle.machines.specs.Operation.{granted_wires};
     ghost use Rattle.machines.specs.Composed.{composed};
-    ghost use Rattle.machines.specs.Laws.{composed_lawful, wires_go, count_stays, count_goes, later};
+    ghost use Rattle.machines.specs.Laws.{composed_lawful, wires_go, count_stays, count_goes};
 
     ghost meaning = { λ m. composed (W.supply m.wires) m.made (J.last m.journal m.made) (J.most m.journal) };
 
@@ -81,7 +81,7 @@ impl<W: Wires, J: Journal> GateMachine for Machine<W, J> {
     ghost goes = { λ x y z os ps a b. record {
       wires = wires_go (λ ws. W.takes x.wires ws z.wires) os ps (W.goes x.wires y.wires z.wires (granted_wires os) (granted_wires ps) a.wires b.wires);
       made = count_goes x.made y.made z.made os ps a.made b.made;
-      journal = J.goes x.journal y.journal z.journal x.made os ps a.journal (later (λ n. J.writes y.journal n ps z.journal) a.made b.journal);
+      journal = J.goes x.journal y.journal z.journal x.made y.made os ps a.made a.journal b.journal;
     } };
 
     fn grant(&mut self, constant: bool) -> Result<Wire, Full> {

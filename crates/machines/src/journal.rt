@@ -35,7 +35,7 @@ pub trait Journal {
     ghost stays: { (x : Self) (n : ℕ) → writes x n [] x };
 
     /// Operations can be written after others.
-    ghost goes: { (x y z : Self) (n : ℕ) (os ps : List Made) → writes x n os y → writes y (n + length os) ps z → writes x n (os ++ ps) z };
+    ghost goes: { (x y z : Self) (n m : ℕ) (os ps : List Made) → m ≡ n + length os → writes x n os y → writes y m ps z → writes x n (os ++ ps) z };
 }
 
 /// Of the operations only the last one is kept.
