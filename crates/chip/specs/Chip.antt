@@ -1,11 +1,10 @@
--- The chip machine.
+-- The chip machine and its wires.
 use Rattle.std.specs.Prelude.{◌≡◌, ℕ, ◌/◌, ◌%◌, ◌^◌, ◌<◌, min, Bool, true, false, ◌&&◌, ◌||◌, List, [], ◌∷◌, None, ◌==◌, nat_lt, slice_index}
-use Rattle.std.specs.Option.{option_map}
 use Rattle.terms.specs.Gate.{by_width}
 use Rattle.terms.specs.declared.Gate.{Gate}
 use Rattle.machines.specs.Machine.{Meaning, operation_limit, with_wire}
-use Rattle.machines.specs.Operation.{Operation, told, granted_wires}
-use Rattle.chip.specs.declared.ChipMachine.{ChipMachine}
+use Rattle.machines.specs.Wires.{Supply}
+use Rattle.chip.specs.declared.Chip.{Chip}
 
 -- Bit n of a mask, worth 2^n, is wire n. A mask has 64 bits.
 abbrev pub in_mask : ℕ → ℕ → Bool
@@ -26,19 +25,16 @@ both_coupled table (a ∷ (b ∷ (c ∷ ws))) = false
 abbrev pub chip_allows : List ℕ → Gate → List ℕ → Bool
 chip_allows table g ws = by_width true (both_coupled table ws) false g
 
-abbrev pub chip_meaning : ChipMachine → Meaning
-chip_meaning m = record {
-  held = in_mask m.held;
-  made = m.made;
-  last = option_map told m.last;
-  most_wires = 64;
-  most_operations = m.most_operations;
-  allowed = chip_allows m.couplings;
-}
+abbrev pub chip_supply : Chip → Supply
+chip_supply c = record { held = in_mask c.held.0; most = 64; allowed = chip_allows c.couplings }
 
 -- A chip just made, with a mask of the wires held and at most o operations: at most 2,000,000.
 abbrev pub fresh_chip : ℕ → ℕ → List ℕ → Meaning
 fresh_chip mask o table = record { held = in_mask mask; made = 0; last = None; most_wires = 64; most_operations = min o operation_limit; allowed = chip_allows table }
+
+-- All 64 wires are held.
+abbrev pub AllHeld : (ℕ → Bool) → Type 0
+AllHeld held = (v : ℕ) → v < 64 → held v ≡ true
 
 -- The free wire with the largest number.
 pub record HighestFree (held : ℕ → Bool) (w : ℕ) : Type 0 where
@@ -56,7 +52,7 @@ abbrev pub EachHighest : (ℕ → Bool) → List ℕ → Type 0
 EachHighest held [] = Unit {0}
 EachHighest held (w ∷ ws) = HighestFree held w × EachHighest (with_wire w held) ws
 
--- A chip that makes operations grants the highest free wire each time, and holds it besides.
-pub record Fills (x : ChipMachine) (os : List Operation) (y : ChipMachine) : Type 0 where
-  pub highest : EachHighest (in_mask x.held) (granted_wires os)
-  pub holds : in_mask y.held ≡ with_wires (granted_wires os) (in_mask x.held)
+-- Of the wires that are taken each is the highest that is free then, and is held besides.
+pub record Fills (x : Chip) (ws : List ℕ) (y : Chip) : Type 0 where
+  pub highest : EachHighest (in_mask x.held.0) ws
+  pub holds : in_mask y.held.0 ≡ with_wires ws (in_mask x.held.0)

@@ -1,15 +1,17 @@
 //! The chip machine.
 #![tactic(auto)]
 
-ghost use Rattle.std.specs.Prelude.{◌≡◌, length, slice_index};
-ghost use Rattle.std.specs.Option.{option_map};
-ghost use Rattle.terms.specs.Gate.{width};
-ghost use Rattle.chip.specs.Chip.{chip_meaning, fresh_chip, coupled, chip_allows, Fills};
-ghost use Rattle.chip.specs.Laws.{chip_lawful, chip_stays, chip_goes};
-ghost use Rattle.machines.specs.Operation.{number, numbers};
+ghost use Rattle.std.specs.Prelude.{◌≡◌, slice_index};
+ghost use Rattle.chip.specs.Chip.{chip_supply, fresh_chip, coupled, Fills};
+ghost use Rattle.chip.specs.Laws.{chip_bounded, fills_stay, fills_go};
+ghost use Rattle.machines.specs.Operation.{number};
 
-use machines::machine::{GateMachine, MOST_OPERATIONS};
-use machines::operation::{Action, Full, GateRefusal, Operands, Operation};
+use crate::mask::Mask;
+use machines::composed::Machine;
+use machines::journal::Last;
+use machines::machine::GateMachine;
+use machines::operation::{Full, Operands};
+use machines::wires::Wires;
 use terms::{Gate, Wire};
 
 mod mask;
@@ -17,114 +19,73 @@ mod mask;
 /// How many wires a chip has.
 const WIRES: usize = 64;
 
-/// A chip of 64 wires. It grants the free wire with the largest number, and allows gates of width 1, and of width 2 on
-/// coupled wires.
+/// The 64 wires of a chip, and which of them are coupled.
 #[derive(Drop)]
-pub struct ChipMachine {
-    held: u64,
-    made: u32,
-    most_operations: u32,
-    last: Option<Operation>,
+pub struct Chip {
+    held: Mask,
     couplings: [u64; WIRES],
 }
 
-impl ChipMachine {
-    /// Holds the wires of the mask `held`, takes at most `most_operations` operations, of which more than 2,000,000 count as
-    /// 2,000,000, and couples two wires if the mask of one in `couplings` has the other.
-    pub fn new(held: u64, most_operations: u32, couplings: [u64; WIRES]) -> ChipMachine
-        ensures { chip_meaning result ≡ fresh_chip held most_operations couplings }
+/// A machine of 64 wires, of which it grants the free one with the largest number. It allows gates of width 1, and of width 2
+/// on coupled wires.
+pub type ChipMachine = Machine<Chip, Last>;
+
+/// Holds the wires of the mask `held`, takes at most `most_operations` operations, of which more than 2,000,000 count as
+/// 2,000,000, and couples two wires if the mask of one in `couplings` has the other.
+pub fn chip_machine(held: u64, most_operations: u32, couplings: [u64; WIRES]) -> ChipMachine
+    ensures { ⟦<ChipMachine as GateMachine>⟧.meaning result ≡ fresh_chip held most_operations couplings }
+{
+    let chip = Chip {
+        held: Mask(held),
+        couplings,
+    };
+    Machine::new(chip, Last::new(most_operations))
+}
+
+impl Chip {
+    // The wires that a wire is coupled to, in this direction.
+    fn coupling(&self, wire: Wire) -> Mask
+        ensures { result.0 ≡ slice_index self.now.couplings (number wire) }
     {
-        ChipMachine {
-            held,
-            made: 0,
-            most_operations: most_operations.min(MOST_OPERATIONS),
-            last: None,
-            couplings,
-        }
+        let at = wire.number() as usize;
+        Mask(self.couplings.get(at).copied().unwrap_or(0))
     }
 
-    /// The last operation, if there was one.
-    pub fn last(&self) -> Option<&Operation>
-        ensures { option_map (λ x. x.now) result ≡ self.now.last }
+    // Whether two wires are coupled, in either order.
+    fn couples(&self, a: Wire, b: Wire) -> bool
+        ensures { result ≡ coupled self.now.couplings (number a) (number b) }
     {
-        self.last.as_ref()
+        self.coupling(a).has(b) || self.coupling(b).has(a)
     }
 }
 
-// The mask of the wires that a wire is coupled to, in this direction.
-fn coupling(couplings: &[u64; WIRES], wire: Wire) -> u64
-    ensures { result ≡ slice_index couplings.now (number wire) }
-{
-    let at = wire.number() as usize;
-    if at < WIRES { couplings[at] } else { 0 }
-}
+impl Wires for Chip {
+    ghost supply = { chip_supply };
 
-// Whether two wires are coupled, in either order.
-fn are_coupled(couplings: &[u64; WIRES], a: Wire, b: Wire) -> bool
-    ensures { result ≡ coupled couplings.now (number a) (number b) }
-{
-    mask::has(coupling(couplings, a), b) | mask::has(coupling(couplings, b), a)
-}
+    ghost takes = { Fills };
 
-// Whether a chip allows a gate of as many wires on them.
-fn allows(couplings: &[u64; WIRES], gate: Gate, operands: Operands) -> bool
-    requires { length (numbers operands) ≡ width gate }
-    ensures { result ≡ chip_allows couplings.now gate (numbers operands) }
-{
-    match operands {
-        Operands::One(_) => true,
-        Operands::Two(a, b) => are_coupled(couplings, a, b),
-        Operands::Three(_, _, _) => false,
-    }
-}
+    ghost bounded = { chip_bounded };
 
-impl GateMachine for ChipMachine {
-    ghost meaning = { chip_meaning };
+    ghost stays = { fills_stay };
 
-    ghost lawful = { chip_lawful };
+    ghost goes = { fills_go };
 
-    ghost makes = { Fills };
-
-    ghost stays = { chip_stays };
-
-    ghost goes = { chip_goes };
-
-    fn grant(&mut self, constant: bool) -> Result<Wire, Full> {
-        if self.made >= self.most_operations {
-            return Err(Full);
-        }
-        if self.held.count_ones() as usize >= WIRES {
-            return Err(Full);
-        }
-        let wire = mask::highest_free(self.held);
-        self.held = mask::with(self.held, wire);
-        self.made += 1;
-        self.last = Some(Operation {
-            action: Action::Grant(constant),
-            operands: Operands::One(wire),
-        });
+    #[tactic(auto, using(crate::proofs::Masks::holds_most, crate::proofs::Masks::holds_fewer))]
+    fn take(&mut self) -> Result<Wire, Full> {
+        let wire = self.held.highest_free().ok_or(Full)?;
+        self.held = self.held.with(wire);
         Ok(wire)
     }
 
-    fn apply(&mut self, gate: Gate, wires: &[Wire]) -> Result<(), GateRefusal> {
-        if self.made >= self.most_operations {
-            return Err(GateRefusal::Full);
-        }
-        let Some(operands) = self.named(gate, wires) else {
-            return Err(GateRefusal::Misnamed);
-        };
-        if !allows(&self.couplings, gate, operands) {
-            return Err(GateRefusal::Forbidden);
-        }
-        self.made += 1;
-        self.last = Some(Operation {
-            action: Action::Gate(gate),
-            operands,
-        });
-        Ok(())
+    fn holds(&self, wire: Wire) -> bool {
+        self.held.has(wire)
     }
 
-    fn holds(&self, wire: Wire) -> bool {
-        mask::has(self.held, wire)
+    fn allows(&self, _gate: Gate, operands: Operands) -> bool {
+        match operands {
+            Operands::One(_) => true,
+            Operands::Two(a, b) => self.couples(a, b),
+            Operands::Three(_, _, _) => false,
+        }
     }
 }

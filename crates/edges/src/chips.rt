@@ -1,7 +1,8 @@
 //! The chip machine at its limits.
-use chip::ChipMachine;
+use crate::granted;
+use chip::chip_machine;
 use machines::machine::GateMachine;
-use machines::operation::{Full, GateRefusal};
+use machines::operation::GateRefusal;
 use std::test::Fail;
 use terms::{Gate, Wire};
 
@@ -20,25 +21,18 @@ const FIRST: [(u64, u32, Option<u16>); 8] = [
 #[test]
 fn first_grants(rt: HostRuntime) {
     for (held, most_operations, first) in FIRST {
-        let mut machine = ChipMachine::new(held, most_operations, [0; 64]);
-        match machine.grant(false) {
-            Ok(wire) => assert_eq!(rt; Some(wire.number()), first),
-            Err(Full) => assert_eq!(rt; None, first),
-        }
+        let mut machine = chip_machine(held, most_operations, [0; 64]);
+        assert_eq!(rt; granted(&mut machine, false), first);
     }
 }
 
 #[test]
-fn a_chip_fills_from_above(rt: HostRuntime) -> Result<(), Fail> {
-    let mut machine = ChipMachine::new(0, 100, [0; 64]);
-    for left in (0..64u16).rev() {
-        match machine.grant(false) {
-            Ok(wire) => assert_eq!(rt; wire.number(), left),
-            Err(Full) => return Err(Fail::new("full too soon")),
-        }
+fn a_chip_fills_from_above(rt: HostRuntime) {
+    let mut machine = chip_machine(0, 100, [0; 64]);
+    for left in (0..64).rev() {
+        assert_eq!(rt; granted(&mut machine, false), Some(left));
     }
-    assert!(rt; machine.grant(false).is_err());
-    Ok(())
+    assert_eq!(rt; granted(&mut machine, false), None);
 }
 
 /// Gates, their wires, and what a chip answers that couples 3 to 5, in this direction only, and holds wires 0 to 7.
@@ -66,13 +60,9 @@ fn couplings(rt: HostRuntime) -> Result<(), Fail> {
         for number in numbers {
             wires.push(Wire::new(*number).ok_or("no such wire")?)?;
         }
-        let mut machine = ChipMachine::new(0xff, 1, table);
+        let mut machine = chip_machine(0xff, 1, table);
         assert_eq!(rt; machine.apply(gate, wires.as_slice()), answer);
-        let once_more = if answer == Ok(()) {
-            Err(GateRefusal::Full)
-        } else {
-            answer
-        };
+        let once_more = answer.and(Err(GateRefusal::Full));
         assert_eq!(rt; machine.apply(gate, wires.as_slice()), once_more);
     }
     Ok(())

@@ -1,7 +1,8 @@
 //! The counting machine at its limits.
+use crate::granted;
 use machines::machine::GateMachine;
-use machines::operation::{Action, Full, GateRefusal, Operands, Operation};
-use numbered::counting::CountingMachine;
+use machines::operation::{Action, GateRefusal, Operands, Operation};
+use numbered::counting::counting_machine;
 use std::test::Fail;
 use terms::{Gate, Wire};
 
@@ -22,11 +23,8 @@ const FIRST: [(u32, u32, u32, Option<u16>); 10] = [
 #[test]
 fn first_grants(rt: HostRuntime) {
     for (start, most_wires, most_operations, first) in FIRST {
-        let mut machine = CountingMachine::new(start, most_wires, most_operations);
-        match machine.grant(true) {
-            Ok(wire) => assert_eq!(rt; Some(wire.number()), first),
-            Err(Full) => assert_eq!(rt; None, first),
-        }
+        let mut machine = counting_machine(start, most_wires, most_operations);
+        assert_eq!(rt; granted(&mut machine, true), first);
     }
 }
 
@@ -42,7 +40,7 @@ const HELD: [(u32, u32, u16); 5] = [
 #[test]
 fn wires_held_at_first(rt: HostRuntime) -> Result<(), Fail> {
     for (start, most_wires, end) in HELD {
-        let machine = CountingMachine::new(start, most_wires, 0);
+        let machine = counting_machine(start, most_wires, 0);
         for number in 0..4096 {
             let wire = Wire::new(number).ok_or("no such wire")?;
             assert_eq!(rt; machine.holds(wire), number < end);
@@ -56,9 +54,9 @@ fn refusals_in_order(rt: HostRuntime) -> Result<(), Fail> {
     let zero = Wire::new(0).ok_or("no such wire")?;
     let one = Wire::new(1).ok_or("no such wire")?;
     let nine = Wire::new(9).ok_or("no such wire")?;
-    let mut full = CountingMachine::new(2, 2, 0);
+    let mut full = counting_machine(2, 2, 0);
     assert_eq!(rt; full.apply(Gate::Cx, &[zero, zero]), Err(GateRefusal::Full));
-    let mut machine = CountingMachine::new(2, 2, 1);
+    let mut machine = counting_machine(2, 2, 1);
     assert_eq!(rt;
         machine.apply(Gate::Cx, &[zero, zero]),
         Err(GateRefusal::Misnamed)

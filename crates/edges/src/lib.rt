@@ -2,6 +2,9 @@
 #![tactic(auto)]
 
 #[cfg(test)]
+use machines::machine::GateMachine;
+
+#[cfg(test)]
 mod charges;
 #[cfg(test)]
 mod chips;
@@ -9,3 +12,9 @@ mod chips;
 mod counts;
 #[cfg(test)]
 mod lists;
+
+// The number of the wire that a machine grants, if it grants one.
+#[cfg(test)]
+fn granted<M: GateMachine>(machine: &mut M, constant: bool) -> Option<u16> {
+    machine.grant(constant).ok().map(|wire| wire.number())
+}

@@ -1,14 +1,14 @@
 //! The list machine at its limits.
 use machines::machine::GateMachine;
 use machines::operation::{Action, Full, GateRefusal, Operands, Operation};
-use numbered::list::ListMachine;
+use numbered::list::list_machine;
 use std::test::Fail;
 use terms::{Gate, Wire};
 
 #[test]
 fn an_empty_list_is_full(rt: HostRuntime) {
     let mut list: [Operation; 0] = [];
-    let mut machine = ListMachine::new(1, 9, &mut list);
+    let mut machine = list_machine(1, 9, &mut list);
     assert_eq!(rt; machine.grant(false), Err(Full));
     assert_eq!(rt; machine.apply(Gate::H, &[]), Err(GateRefusal::Full));
     assert!(rt; machine.records().is_empty());
@@ -32,7 +32,7 @@ fn records_fill_the_front(rt: HostRuntime) -> Result<(), Fail> {
         operands: Operands::Two(one, zero),
     };
     let mut list = [blank; 4];
-    let mut machine = ListMachine::new(1, 2, &mut list);
+    let mut machine = list_machine(1, 2, &mut list);
     assert_eq!(rt; machine.grant(true), Ok(one));
     assert_eq!(rt; machine.grant(true), Err(Full));
     assert_eq!(rt;

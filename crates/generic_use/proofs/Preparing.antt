@@ -1,14 +1,14 @@
 -- What follows from the interface of machines.
-use Rattle.std.proofs.Common.{◌≡◌, ℕ, Bool, ◌||◌, List, [], ◌∷◌, ◌++◌, map, length, take, drop, Err, Result, refl, ap, ◌∙◌, subst, arith, eq-eqb}
-use Rattle.std.specs.List.{range_with_len, IsDistinct}
+use Rattle.std.proofs.Common.{◌≡◌, ℕ, ◌+◌, Bool, ◌||◌, List, [], ◌∷◌, ◌++◌, map, length, take, drop, Err, Result, sym, refl, ap, ◌∙◌, subst, arith, eq-eqb}
+use Rattle.std.specs.List.{IsDistinct}
 use Rattle.terms.specs.declared.Gate.TheVariants.{H}
 use Rattle.machines.specs.Machine.{Meaning, Granted, Applies, WellNamed}
-use Rattle.machines.specs.Operation.{Operation, granted_wires, told}
+use Rattle.machines.specs.Operation.{Operation, told}
 use Rattle.machines.specs.declared.operation.GateRefusal.{GateRefusal}
 use Rattle.machines.specs.declared.operation.GateRefusal.TheVariants.{Misnamed}
 use Rattle.machines.specs.declared.operation.Operation.{Operation as Record}
-use Rattle.numbered.specs.Listing.{Writes}
-use Rattle.numbered.specs.declared.list.ListMachine.{ListMachine}
+use Rattle.machines.specs.Listing.{Writes}
+use Rattle.std.specs.Borrow.{MutBor}
 
 -- A wire that was just granted is well named.
 granted-named : (c : Bool) (w : ℕ) (m k : Meaning) → Granted c w m k → WellNamed k H (w ∷ [])
@@ -22,13 +22,17 @@ granted-named c w m k g = record {
 pub never_misnamed : (c : Bool) (w : ℕ) (r : Result (Unit {0}) GateRefusal) (m k n : Meaning) → Granted c w m k → Applies H (w ∷ []) r k n → r ≡ Err Misnamed → ⊥
 never_misnamed c w r m k n g a e = (subst (λ x. Applies H (w ∷ []) x k n) e a).0.misnamed (granted-named c w m k g)
 
--- What a lent list holds once a list machine that was just made has made operations.
-pub list_closed : (x y : ListMachine) (xs out : List Record) (os : List Operation) → x.made ≡ 0 → x.list.now ≡ xs → x.wires.next ≡ 0 → Writes x os y → out ≡ y.list.now → (granted_wires os ≡ range_with_len 0 (length (granted_wires os))) × (map told (take (length os) out) ≡ os) × (drop (length os) out ≡ drop (length os) xs)
-list_closed x y xs out os none same first w e =
-    let made : length os ≡ y.made = omega (arith, w.made, none) in (
-      w.numbers.wires ∙ ap (λ n. range_with_len n (length (granted_wires os))) first,
-      ap (λ l. map told (take (length os) l)) e ∙ ap (λ n. map told (take n y.list.now)) made ∙ w.adds
-          ∙ ap (λ n. map told (take n x.list.now) ++ os) none,
-      ap (drop (length os)) e ∙ ap (λ n. drop n y.list.now) made ∙ w.leaves
-          ∙ ap (λ n. drop (length os) (drop n x.list.now)) none ∙ ap (drop (length os)) same,
-    )
+-- What a lent list holds once operations were written into it from its front on.
+module _ (x y : MutBor (List Record)) (n : ℕ) (os : List Operation) (out : List Record) (none : n ≡ 0) (writes : Writes x n os y) (end : out ≡ y.now) where
+  from_front : (m : ℕ) → n + m ≡ m
+  from_front m = omega (arith, none)
+
+  pub list_front : map told (take (length os) out) ≡ os
+  list_front =
+      ap (λ l. map told (take (length os) l)) end ∙ ap (λ m. map told (take m y.now)) (sym (from_front (length os))) ∙ writes.adds
+      ∙ ap (λ m. map told (take m x.now) ++ os) none
+
+  pub list_rest : drop (length os) out ≡ drop (length os) x.now
+  list_rest =
+      ap (drop (length os)) end ∙ ap (λ m. drop m y.now) (sym (from_front (length os))) ∙ writes.leaves
+      ∙ ap (λ m. drop (length os) (drop m x.now)) none

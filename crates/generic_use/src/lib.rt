@@ -10,7 +10,7 @@ ghost use Rattle.generic_use.specs.Preparing.{Prepares, prepared};
 
 use machines::machine::GateMachine;
 use machines::operation::{Full, GateRefusal, Operation};
-use numbered::list::ListMachine;
+use numbered::list::list_machine;
 use tariffs::Tariff;
 use terms::{Gate, StepKind, Wire};
 
@@ -41,7 +41,7 @@ pub fn prepare_listed(list: &mut [Operation]) -> Result<Prepared, Full>
     ensures front { map told (take (length (prepared result)) list.new) ≡ prepared result }
     ensures rest { drop (length (prepared result)) list.new ≡ drop (length (prepared result)) list.old }
 {
-    let mut machine = ListMachine::new(0, 4, list);
+    let mut machine = list_machine(0, 4, list);
     prepare(&mut machine)
 }
 

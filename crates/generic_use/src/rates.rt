@@ -7,6 +7,7 @@ ghost use Rattle.tariffs.specs.Charges.{sum_fair};
 use tariffs::Tariff;
 use tariffs::cents::Cents;
 use tariffs::money::Money;
+use tariffs::prices::PriceList;
 use terms::StepKind;
 
 /// Prices in cents: of a grant, and of gates by their width. Classical steps are free.
@@ -21,15 +22,14 @@ impl Rates {
     pub fn rate(&self, kind: StepKind) -> u32
         ensures { result ≡ rate_of self.now kind }
     {
-        match kind {
-            StepKind::Single | StepKind::Tuple | StepKind::Bang => 0,
-            StepKind::Grant(_) => self.grant,
-            StepKind::Gate(gate) => match gate.width() {
-                1 => self.gates[0],
-                2 => self.gates[1],
-                _ => self.gates[2],
-            },
-        }
+        let prices = PriceList {
+            classical: 0,
+            grant: self.grant,
+            one: self.gates[0],
+            two: self.gates[1],
+            three: self.gates[2],
+        };
+        prices.of(kind)
     }
 }
 

@@ -1,3 +1,3 @@
 pub mod Counts
-pub mod Grants
 pub mod Operands
+pub mod Writing

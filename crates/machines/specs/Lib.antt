@@ -1,2 +1,6 @@
 pub mod Operation
 pub mod Machine
+pub mod Wires
+pub mod Listing
+pub mod Composed
+pub mod Laws

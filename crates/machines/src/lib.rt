@@ -1,5 +1,8 @@
-//! Gate machines: what a machine means, and how it is asked to grant wires and to apply gates.
+//! Gate machines: what a machine means, how it is asked to grant wires and to apply gates, and what it is composed of.
 #![tactic(auto)]
 
+pub mod composed;
+pub mod journal;
 pub mod machine;
 pub mod operation;
+pub mod wires;

@@ -18,18 +18,9 @@ pub trait GateMachine {
     /// What the machine means.
     ghost meaning: { Self → Meaning };
 
-    /// Every machine is lawful.
-    ghost lawful: { (x : Self) → Lawful (meaning x) };
-
     /// What is known besides its meaning of a machine that makes operations: `makes x os y` tells of x, of the operations
     /// os that it makes, and of y, which it then is.
     ghost makes: { Self → List Made → Self → Type 0 };
-
-    /// A machine can make no operation and stay what it is.
-    ghost stays: { (x : Self) → makes x [] x };
-
-    /// Operations can be made after others.
-    ghost goes: { (x y z : Self) (os ps : List Made) → makes x os y → makes y ps z → makes x (os ++ ps) z };
 
     /// Grants a wire for a constant.
     fn grant(&mut self, constant: bool) -> Result<Wire, Full>
@@ -70,4 +61,13 @@ pub trait GateMachine {
             None
         }
     }
+
+    /// Every machine is lawful.
+    ghost lawful: { (x : Self) → Lawful (meaning x) };
+
+    /// A machine can make no operation and stay what it is.
+    ghost stays: { (x : Self) → makes x [] x };
+
+    /// Operations can be made after others.
+    ghost goes: { (x y z : Self) (os ps : List Made) → makes x os y → makes y ps z → makes x (os ++ ps) z };
 }

@@ -1,5 +1,5 @@
 //! What machines do: the operations, and how a call is refused.
-ghost use Rattle.std.specs.Prelude.{Decides, nat_eq};
+ghost use Rattle.std.specs.Prelude.{◌≡◌, Decides, nat_eq};
 ghost use Rattle.std.specs.List.{IsDistinct};
 ghost use Rattle.machines.specs.Operation.{numbers, Listed};
 
@@ -42,30 +42,38 @@ pub enum GateRefusal {
     Forbidden,
 }
 
+impl From<Full> for GateRefusal {
+    ghost use Rattle.machines.specs.declared.operation.GateRefusal.TheVariants.{Full as IsFull};
+
+    ghost from_gives = { λ _ r. r ≡ IsFull };
+
+    fn from(_full: Full) -> GateRefusal {
+        GateRefusal::Full
+    }
+}
+
 impl Operands {
     /// One, two or three wires as operands.
     pub fn of(wires: &[Wire]) -> Option<Operands>
         ensures { Listed wires.now result }
     {
-        match wires.len() {
-            1 => Some(Operands::One(wires[0])),
-            2 => Some(Operands::Two(wires[0], wires[1])),
-            3 => Some(Operands::Three(wires[0], wires[1], wires[2])),
+        match *wires {
+            [a] => Some(Operands::One(a)),
+            [a, b] => Some(Operands::Two(a, b)),
+            [a, b, c] => Some(Operands::Three(a, b, c)),
             _ => None,
         }
     }
 
     /// Whether no two of the wires are the same.
+    #[tactic(auto, using(crate::proofs::Operands::one_distinct, crate::proofs::Operands::two_distinct, crate::proofs::Operands::three_distinct))]
     pub fn distinct(self) -> bool
         ensures { Decides result (IsDistinct nat_eq (numbers self)) }
     {
         match self {
             Operands::One(_) => true,
-            Operands::Two(a, b) => a.number() != b.number(),
-            Operands::Three(a, b, c) => {
-                let (x, y, z) = (a.number(), b.number(), c.number());
-                (x != y) & (x != z) & (y != z)
-            }
+            Operands::Two(a, b) => a != b,
+            Operands::Three(a, b, c) => (a != b) & (a != c) & (b != c),
         }
     }
 }

@@ -1,4 +1,2 @@
 pub mod Numbered
-pub mod Counting
-pub mod Listing
 pub mod Laws

@@ -3,4 +3,4 @@
 
 pub mod counting;
 pub mod list;
-mod numbering;
+pub mod numbering;

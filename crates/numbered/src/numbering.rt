@@ -1,22 +1,26 @@
 //! Wires that are numbered from 0 on.
-ghost use Rattle.std.specs.Prelude.{◌≡◌, min};
+ghost use Rattle.std.specs.Prelude.{◌≤◌};
 ghost use Rattle.machines.specs.Machine.{wire_count};
-ghost use Rattle.numbered.specs.Numbered.{numbered, Takes};
-ghost use Rattle.machines.specs.Operation.{number};
 
 use machines::machine::MOST_WIRES;
-use terms::Wire;
+use machines::operation::{Full, Operands};
+use machines::wires::Wires;
+use terms::{Gate, Wire};
 
-/// The wires below `next` are held, and at most `most` are.
+/// The wires below `next` are held, at most `most` are, and all gates are allowed on them.
 #[derive(Clone, Copy)]
-pub(crate) struct Numbering {
+pub struct Numbering {
     next: u16,
     most: u16,
+    ghost within: { next ≤ most },
+    ghost limit: { most ≤ wire_count },
 }
 
 impl Numbering {
+    ghost use Rattle.std.specs.Prelude.{◌≡◌, min};
+
     /// Holds the wires below `start`. More than 4,096 wires count as 4,096, and a start over the most wires as these.
-    pub(crate) fn new(start: u32, most: u32) -> Numbering
+    pub fn new(start: u32, most: u32) -> Numbering
         ensures next { result.next ≡ min start (min most wire_count) }
         ensures most { result.most ≡ min most wire_count }
     {
@@ -26,23 +30,36 @@ impl Numbering {
             most: most as u16,
         }
     }
+}
 
-    /// Holds the next wire too, if there is room for it.
-    pub(crate) fn take(&mut self) -> Option<Wire>
-        ensures { Takes self.old result self.new }
-    {
+impl Wires for Numbering {
+    ghost use Rattle.numbered.specs.Numbered.{supply_of, Numbers};
+    ghost use Rattle.numbered.specs.Laws.{numbering_bounded, numbers_stay, numbers_go};
+
+    ghost supply = { supply_of };
+
+    ghost takes = { Numbers };
+
+    ghost bounded = { numbering_bounded };
+
+    ghost stays = { numbers_stay };
+
+    ghost goes = { numbers_go };
+
+    fn take(&mut self) -> Result<Wire, Full> {
         if self.next >= self.most {
-            return None;
+            return Err(Full);
         }
-        let wire = Wire::new(self.next)?;
+        let wire = Wire::new(self.next).unwrap();
         self.next += 1;
-        Some(wire)
+        Ok(wire)
     }
 
-    /// Whether the wire is held.
-    pub(crate) fn holds(self, wire: Wire) -> bool
-        ensures { result ≡ numbered self (number wire) }
-    {
-        wire.number() < self.next.min(MOST_WIRES)
+    fn holds(&self, wire: Wire) -> bool {
+        wire.number() < self.next
+    }
+
+    fn allows(&self, _gate: Gate, _operands: Operands) -> bool {
+        true
     }
 }

@@ -1,4 +1,5 @@
 pub mod Tariff
+pub mod Prices
 pub mod Money
 pub mod Noise
 pub mod Charges

@@ -2,19 +2,14 @@
 use Rattle.std.specs.Prelude.{ℕ, ◌+◌, ◌-◌, ◌^◌, ◌<◌, min}
 use Rattle.std.proofs.Common.{lt_of_le_of_lt, lit<}
 use Rattle.std.proofs.Math.Nat.{min-le_right}
-use Rattle.terms.specs.Gate.{by_width}
 use Rattle.terms.specs.declared.StepKind.{StepKind}
-use Rattle.terms.specs.declared.StepKind.TheVariants.{Single, Tuple, Bang, Grant, Gate}
+use Rattle.tariffs.specs.Prices.{listed}
 use Rattle.tariffs.specs.Tariff.{Prices}
 use Rattle.tariffs.specs.declared.cents.Cents.{Cents}
 
 -- Classical steps are free, a grant is 300 cents, and a gate is 10, 40 or 150 by its width.
 abbrev pub cents_of : StepKind → ℕ
-cents_of Single = 0
-cents_of Tuple = 0
-cents_of Bang = 0
-cents_of (Grant c) = 300
-cents_of (Gate g) = by_width 10 40 150 g
+cents_of = listed (record { classical = 0; grant = 300; one = 10; two = 40; three = 150 })
 
 -- A number as an amount: one that passes 2^63 - 1 counts as that.
 pub limited : (n : ℕ) → min n (2 ^ 63 - 1) < 2 ^ 63

@@ -1,19 +1,14 @@
 -- The tariff of noise grades.
 use Rattle.std.specs.Prelude.{ℕ, ◌≤◌, max, min}
 use Rattle.std.proofs.Math.Nat.{min-le_right, max-le}
-use Rattle.terms.specs.Gate.{by_width}
 use Rattle.terms.specs.declared.StepKind.{StepKind}
-use Rattle.terms.specs.declared.StepKind.TheVariants.{Single, Tuple, Bang, Grant, Gate}
+use Rattle.tariffs.specs.Prices.{listed}
 use Rattle.tariffs.specs.Tariff.{Prices}
 use Rattle.tariffs.specs.declared.grade.Grade.{Grade}
 
 -- Classical steps and grants have grade 0, and a gate has 1, 4 or 9 by its width.
 abbrev pub grade_of : StepKind → ℕ
-grade_of Single = 0
-grade_of Tuple = 0
-grade_of Bang = 0
-grade_of (Grant c) = 0
-grade_of (Gate g) = by_width 1 4 9 g
+grade_of = listed (record { classical = 0; grant = 0; one = 1; two = 4; three = 9 })
 
 -- A number as a grade: one over 9 counts as 9.
 pub limited : (n : ℕ) → min n 9 ≤ 9

@@ -10,6 +10,7 @@ pub mod cents;
 pub mod grade;
 pub mod money;
 pub mod noise;
+pub mod prices;
 
 /// A tariff, by its prices. They are of the value, so that they can have been read while the program runs.
 pub trait Tariff {

@@ -1,30 +1,24 @@
 //! The money tariff.
-ghost use Rattle.std.specs.Prelude.{◌≡◌};
 ghost use Rattle.tariffs.specs.Money.{money, cents_of, amount};
 ghost use Rattle.tariffs.specs.Charges.{sum_fair};
 
 use crate::Tariff;
 use crate::cents::Cents;
+use crate::prices::PriceList;
 use terms::StepKind;
 
 /// Charges in cents, which are added up and stay at 2^63 - 1 once they would pass it.
 #[derive(Clone, Copy)]
 pub struct Money;
 
-// The price of a step of a kind, in cents.
-fn price(kind: StepKind) -> u64
-    ensures { result ≡ cents_of kind }
-{
-    match kind {
-        StepKind::Single | StepKind::Tuple | StepKind::Bang => 0,
-        StepKind::Grant(_) => 300,
-        StepKind::Gate(gate) => match gate.width() {
-            1 => 10,
-            2 => 40,
-            _ => 150,
-        },
-    }
-}
+// What the steps cost, in cents.
+const PRICES: PriceList<u64> = PriceList {
+    classical: 0,
+    grant: 300,
+    one: 10,
+    two: 40,
+    three: 150,
+};
 
 impl Tariff for Money {
     type Charge = Cents;
@@ -44,6 +38,8 @@ impl Tariff for Money {
     }
 
     fn charge(&self, kind: StepKind) -> Cents {
-        Cents { value: price(kind) }
+        Cents {
+            value: PRICES.of(kind),
+        }
     }
 }

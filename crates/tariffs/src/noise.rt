@@ -1,29 +1,24 @@
 //! The tariff of noise grades.
-ghost use Rattle.std.specs.Prelude.{◌≡◌};
 ghost use Rattle.tariffs.specs.Noise.{noise, grade_of, graded};
 ghost use Rattle.tariffs.specs.Charges.{greater_fair};
 
 use crate::Tariff;
 use crate::grade::Grade;
+use crate::prices::PriceList;
 use terms::StepKind;
 
 /// Grades, of which the greater counts.
 #[derive(Clone, Copy)]
 pub struct Noise;
 
-// The grade of a step of a kind.
-fn grade(kind: StepKind) -> u8
-    ensures { result ≡ grade_of kind }
-{
-    match kind {
-        StepKind::Single | StepKind::Tuple | StepKind::Bang | StepKind::Grant(_) => 0,
-        StepKind::Gate(gate) => match gate.width() {
-            1 => 1,
-            2 => 4,
-            _ => 9,
-        },
-    }
-}
+// The grades of the steps.
+const GRADES: PriceList<u8> = PriceList {
+    classical: 0,
+    grant: 0,
+    one: 1,
+    two: 4,
+    three: 9,
+};
 
 impl Tariff for Noise {
     type Charge = Grade;
@@ -37,12 +32,12 @@ impl Tariff for Noise {
     }
 
     fn join(&self, a: Grade, b: Grade) -> Grade {
-        Grade {
-            value: a.value.max(b.value),
-        }
+        a.max(b)
     }
 
     fn charge(&self, kind: StepKind) -> Grade {
-        Grade { value: grade(kind) }
+        Grade {
+            value: GRADES.of(kind),
+        }
     }
 }

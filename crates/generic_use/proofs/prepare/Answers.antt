@@ -8,10 +8,9 @@ use Rattle.generic_use.proofs.prepare.Goals as goal
 pub returns : goal.returns
 returns g c =
     let M = g.M.GateMachine in
-    let before = c.args.machine.now in
     let between = c.grant.new.self in
-    let w = c.in_ok-wire.wire.number in
     let after = c.apply-gate.new.self in
+    let w = c.in_ok-wire.wire.number in
     let wire = c.in_ok-wire.ensures in
     let gate = c.apply-gate.ensures in
     record {
@@ -19,7 +18,7 @@ returns g c =
         between = M.meaning between;
         grants = wire.grants;
         applies = gate.applies;
-        named = never_misnamed false w c.apply-gate.result (M.meaning before) (M.meaning between) (M.meaning after) wire.grants gate.applies;
+        named = never_misnamed false w c.apply-gate.result _ _ _ wire.grants gate.applies;
       };
-      makes = M.goes before between after (granted false w ∷ []) (gate_made H (w ∷ []) c.apply-gate.result) wire.makes gate.makes;
+      makes = g.met.M.GateMachine.goes c.args.machine.now between after (granted false w ∷ []) (gate_made H (w ∷ []) c.apply-gate.result) wire.makes gate.makes;
     }
