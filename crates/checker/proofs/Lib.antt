@@ -1,14 +1,2 @@
-pub mod Tables
-pub mod Walks
-pub mod Resolve
-pub mod Located
 pub mod Finding
-pub mod Showing
-pub mod Faultless
-pub mod Tally
-pub mod Wires
-pub mod Uses
-pub mod Ranges
-pub mod Counts
-pub mod Checking
 pub mod Deciding
