@@ -10,8 +10,11 @@ use Rattle.checker.specs.Faults.{Nowhere, Least}
 
 -- A site more at the front.
 behind : (P : ℕ → Type 0) (l : ℕ) (lines : List ℕ) (r : Option ℕ) → (P 0 → ⊥) → Found (λ n. P (suc n)) lines r → Found P (l ∷ lines) r
-behind P l lines None h f zero lo p = h p
-behind P l lines None h f (suc n) lo p = f n (omega arith) p
+behind P l lines None h f = none
+  where
+    none : (n : ℕ) → n < length (l ∷ lines) → P n → ⊥
+    none zero lo p = h p
+    none (suc n) lo p = f n (omega arith) p
 behind P l lines (Some k) h f = record { node = suc f.node; low = omega (arith, f.low); breaks = f.breaks; line = f.line; first = first }
   where
     first : (n : ℕ) → n < length (l ∷ lines) → P n → k ≤ get_or (l ∷ lines) n 0
@@ -45,17 +48,13 @@ reduce-cons l (k ∷ ms) = ap Some (fold-min k l ms)
 abbrev pub Passes : (Role → ℕ → Bool) → List Site → ℕ → Type 0
 Passes t xs n = t (get_or (roles xs) n Other) (get_or (site_lines xs) n 0) ≡ true
 
+found_in : (t : Role → ℕ → Bool) (x : Site) (xs kept : List Site) (b : Bool) → t x.role x.line ≡ b → Found (Passes t xs) (site_lines xs) (reduce min (site_lines kept)) → Found (Passes t (x ∷ xs)) (site_lines (x ∷ xs)) (reduce min (site_lines (cond b (x ∷ kept) kept)))
+found_in t x xs kept true e f = subst (Found (Passes t (x ∷ xs)) (site_lines (x ∷ xs))) (sym (reduce-cons x.line (site_lines kept))) (before (Passes t (x ∷ xs)) x.line (site_lines xs) _ e f)
+found_in t x xs kept false e f = behind (Passes t (x ∷ xs)) x.line (site_lines xs) _ (λ p. let z : false ≡ true = sym e ∙ p in cc) f
+
 pub least_found : (t : Role → ℕ → Bool) (xs : List Site) → Found (Passes t xs) (site_lines xs) (least_line (λ x. t x.role x.line) xs)
 least_found t [] = λ n lo p. absurd (omega arith)
-least_found t (x ∷ xs) = go (t x.role x.line) refl
-  where
-    kept : List Site
-    kept = filter (λ y. t y.role y.line) xs
-
-    go : (b : Bool) → t x.role x.line ≡ b → Found (Passes t (x ∷ xs)) (site_lines (x ∷ xs)) (reduce min (site_lines (cond b (x ∷ kept) kept)))
-    unfolding kept
-    go true e = subst (Found (Passes t (x ∷ xs)) (site_lines (x ∷ xs))) (sym (reduce-cons x.line (site_lines kept))) (before (Passes t (x ∷ xs)) x.line (site_lines xs) _ e (least_found t xs))
-    go false e = behind (Passes t (x ∷ xs)) x.line (site_lines xs) _ (λ p. let z : false ≡ true = sym e ∙ p in cc) (least_found t xs)
+least_found t (x ∷ xs) = found_in t x xs (filter (λ y. t y.role y.line) xs) (t x.role x.line) refl (least_found t xs)
 
 -- The same rule, said in another way.
 pub found_same : (P Q : ℕ → Type 0) (lines : List ℕ) (r : Option ℕ) → ((n : ℕ) → n < length lines → P n → Q n) → ((n : ℕ) → n < length lines → Q n → P n) → Found P lines r → Found Q lines r

@@ -132,15 +132,12 @@ Wiped xs F k = (w : ℕ) → w < length F → (slice_index_or F w None ≡ None)
 
 -- The site n is a binder that has a linear variable that is not used once.
 pub record MisuseSite (xs : List Role) (n : ℕ) : Type 0 where
+  pub binder : ℕ
   pub pattern : ℕ
   pub place : ℕ
   pub low : place < pattern
-  pub here : slice_index_or xs n Other ≡ Opening n pattern
-  pub off : tally (is_use n place) xs ≡ 1 → ⊥
-
--- How often the place p of the binder m was counted.
-abbrev pub count_of : List (List ℕ) → ℕ → ℕ → ℕ
-count_of C m p = slice_index (slice_index_or C m []) p
+  pub here : slice_index_or xs n Other ≡ Opening binder pattern
+  pub off : tally (is_use binder place) xs ≡ 1 → ⊥
 
 -- The role speaks of the binder m.
 abbrev pub Names : ℕ → Role → Type 0
@@ -150,16 +147,17 @@ Names m (Use n k p x) = m ≡ n
 Names m (Lead w x) = ⊥
 Names m (Opening n k) = m ≡ n
 
--- The binders that the first k sites speak of have no uses.
-abbrev pub Cleared : List Role → List (List ℕ) → ℕ → Type 0
-Cleared xs C k = (n m p : ℕ) → n < k → Names m (slice_index_or xs n Other) → count_of C m p ≡ 0
+-- The row has, for each of the eight places of the binder m, its uses among the sites xs.
+pub record Uses (xs : List Role) (m : ℕ) (row : List ℕ) : Type 0 where
+  pub long : length row ≡ 8
+  pub each : (p : ℕ) → p < 8 → slice_index row p ≡ tally (is_use m p) xs
 
--- The uses among the first k sites of each binder that a site speaks of.
-abbrev pub CountedTo : List Role → List (List ℕ) → ℕ → Type 0
-CountedTo xs C k = (n m p : ℕ) → n < length xs → Names m (slice_index_or xs n Other) → p < 8 → count_of C m p ≡ tally (is_use m p) (take k xs)
+-- The uses among the sites `seen`, for each binder that one of the first k sites names.
+abbrev pub Counts : List Role → List Role → List (List ℕ) → ℕ → Type 0
+Counts seen xs C k = (n m : ℕ) → n < k → Names m (slice_index_or xs n Other) → Uses seen m (slice_index_or C m [])
 
 abbrev pub Counted : List Role → List (List ℕ) → Type 0
-Counted xs C = CountedTo xs C (length xs)
+Counted xs C = Counts xs xs C (length xs)
 
 abbrev pub cleared : Role → List (List ℕ) → List (List ℕ)
 cleared Other C = C
@@ -167,6 +165,10 @@ cleared Free C = C
 cleared (Use m k p x) C = slice_set C m (replicate 8 0)
 cleared (Lead w x) C = C
 cleared (Opening m k) C = slice_set C m (replicate 8 0)
+
+-- How often the place p of the binder m was counted.
+abbrev pub count_of : List (List ℕ) → ℕ → ℕ → ℕ
+count_of C m p = slice_index (slice_index_or C m []) p
 
 abbrev pub counted_in : Role → List (List ℕ) → List (List ℕ)
 counted_in Other C = C
