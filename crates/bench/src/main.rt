@@ -36,7 +36,7 @@ fn take_in_often(intake: &mut Intake, sheet: &[u8], turns: u32) -> usize {
     let mut nodes = 0usize;
     for _ in 0..turns {
         if intake.take_in(sheet).is_ok() {
-            nodes = nodes.saturating_add(intake.accepted.program.nodes().len());
+            nodes = nodes.saturating_add(intake.accepted.program.table().len());
         }
     }
     nodes

@@ -24,7 +24,7 @@ fn main(rt: HostRuntime) -> anyhow::Result<()> {
     if check(&mut program, &mut check_storage, &mut accepted).is_err() {
         return Err(anyhow!("the program is not accepted"));
     }
-    let nodes = accepted.program.nodes().len();
+    let nodes = accepted.program.table().len();
     println!(rt; "accepted: {nodes} nodes")?;
     Ok(())
 }

@@ -1,16 +1,19 @@
 -- A stack of lines whose terms are still to come.
 use Rattle.std.proofs.Common.{◌≡◌, ℕ, suc, ◌+◌, ◌-◌, ◌<◌, ◌≤◌, List, [], ◌∷◌, ◌++◌, reverse, length, get_or, drop, sym, refl, ap, ◌∙◌, subst, append_assoc, append-nil, arith, length-append}
-use Rattle.std.proofs.lemmas.List.{reverse-append, reverse-reverse, length-reverse, drop_more, length-map}
+use Rattle.std.proofs.lemmas.List.{reverse-append, reverse-reverse, length-reverse, drop_more, length-map, map-append}
 use Rattle.terms.specs.Term.{Term, Terms, none, part}
 use Rattle.terms.specs.Flat.{flat, flats, node_of, kind_of, parts}
+use Rattle.terms.specs.declared.Kind.{Kind}
 use Rattle.terms.specs.declared.Node.{Node}
 use Rattle.terms.proofs.Forests.{join, flat-node, flats-join}
 use Rattle.sheet.specs.Entry.{Entry, Each, Proper}
 use Rattle.sheet.specs.Sheet.{Placed}
 use Rattle.sheet.specs.Entries.{listed, entry, entries}
+use Rattle.sheet.specs.Located.{nodes_in, lines_in}
 use Rattle.sheet.specs.Reading.{Line, first_line, later_line, Writes, Write, line, no_parts, more_parts}
 use Rattle.sheet.specs.Tables.{Tabled}
 use Rattle.sheet.specs.declared.line.Line.{Line as CodeLine}
+use Rattle.sheet.specs.declared.located.LocatedNode.{LocatedNode}
 use Rattle.sheet.proofs.Listed.{listed-length}
 use Rattle.sheet.proofs.Times.{few}
 use Rattle.sheet.proofs.Writing.{WrittenTerm, written-term, writes-once, writes-range, line-range}
@@ -23,24 +26,24 @@ stack_more base xs k o h =
     append_assoc base (reverse (drop k xs)) (x ∷ []) ∙ ap (λ ys. base ++ ys) (sym (ap reverse d ∙ reverse-append (x ∷ []) (drop k xs)))
 
 -- Where the walk is: the terms that pending lines write are still to come, and make up the rest of the whole.
-pub record Underway (es : List Entry) (pending : List ℕ) (nodes : List Node) (lines : List ℕ) : Type 0 where
+pub record Underway (es : List Entry) (pending : List ℕ) (table : List LocatedNode) : Type 0 where
   pub whole : WrittenTerm es (length es)
   pub terms : Terms
   pub left : List ℕ
   pub writes : Write es (reverse pending) terms left
-  pub nodes_whole : nodes ++ flats terms ≡ flat whole.term
-  pub lines-whole : lines ++ left ≡ whole.lines
+  pub nodes_whole : nodes_in table ++ flats terms ≡ flat whole.term
+  pub lines-whole : lines_in table ++ left ≡ whole.lines
 
-pub starts : (es : List Entry) (pending : List ℕ) (nodes : List Node) (lines : List ℕ) → Each Proper es → Placed es → 0 < length es → pending ≡ length es ∷ [] → nodes ≡ [] → lines ≡ [] → Underway es pending nodes lines
-starts es pending nodes lines p g h a b d =
+pub starts : (es : List Entry) (pending : List ℕ) (table : List LocatedNode) → Each Proper es → Placed es → 0 < length es → pending ≡ length es ∷ [] → table ≡ [] → Underway es pending table
+starts es pending table p g h a b =
     let w = written-term es p g h in
     record {
       whole = w;
       terms = part w.term none;
       left = w.lines ++ [];
       writes = subst (λ (ps : List ℕ). Write es ps (part w.term none) (w.lines ++ [])) (sym (ap reverse a)) (more_parts w.writes no_parts);
-      nodes_whole = ap (λ ns. ns ++ (flat w.term ++ [])) b ∙ append-nil (flat w.term);
-      lines-whole = ap (λ ls. ls ++ (w.lines ++ [])) d ∙ append-nil w.lines;
+      nodes_whole = ap (λ (ns : List LocatedNode). nodes_in ns ++ (flat w.term ++ [])) b ∙ append-nil (flat w.term);
+      lines-whole = ap (λ (ns : List LocatedNode). lines_in ns ++ (w.lines ++ [])) b ∙ append-nil w.lines;
     }
 
 write_append : {es : List Entry} {ps : List ℕ} {ts : Terms} {ls : List ℕ} → Write es ps ts ls → (qs : List ℕ) (us : Terms) (ms : List ℕ) → Write es qs us ms → Write es (ps ++ qs) (join ts us) (ls ++ ms)
@@ -75,12 +78,19 @@ top_of {es = es} (more_parts {p = p} {ps = ps} {t = t} {ts = ts} {ls = ls} {ms =
 reverse_push : (xs : List ℕ) (n : ℕ) → reverse (xs ++ (n ∷ [])) ≡ n ∷ reverse xs
 reverse_push xs n = reverse-append xs (n ∷ [])
 
-top : (es : List Entry) (stack rest : List ℕ) (n : ℕ) (nodes : List Node) (lines : List ℕ) → stack ≡ rest ++ (n ∷ []) → (u : Underway es stack nodes lines) → Top es (reverse rest) n u.terms u.left
-top es stack rest n nodes lines e u = top_of u.writes n (reverse rest) (ap reverse e ∙ reverse_push rest n)
+top : (es : List Entry) (stack rest : List ℕ) (n : ℕ) (table : List LocatedNode) → stack ≡ rest ++ (n ∷ []) → (u : Underway es stack table) → Top es (reverse rest) n u.terms u.left
+top es stack rest n table e u = top_of u.writes n (reverse rest) (ap reverse e ∙ reverse_push rest n)
+
+abbrev pub located : Kind → ℕ → LocatedNode
+located k n = record { node = node_of k; line = n }
 
 -- One node more.
-steps : (es : List Entry) (stack rest after : List ℕ) (n : ℕ) (nodes nodes' : List Node) (lines lines' : List ℕ) (u : Underway es stack nodes lines) → (t : Top es (reverse rest) n u.terms u.left) → after ≡ rest ++ reverse t.below → nodes' ≡ nodes ++ (node_of (kind_of t.term) ∷ []) → lines' ≡ lines ++ (n ∷ []) → Underway es after nodes' lines'
-steps es stack rest after n nodes nodes' lines lines' u t a b d =
+steps : (es : List Entry) (stack rest after : List ℕ) (n : ℕ) (table table' : List LocatedNode) (u : Underway es stack table) → (t : Top es (reverse rest) n u.terms u.left) → after ≡ rest ++ reverse t.below → table' ≡ table ++ (located (kind_of t.term) n ∷ []) → Underway es after table'
+steps es stack rest after n table table' u t a e =
+    let nodes : List Node = nodes_in table in
+    let lines : List ℕ = lines_in table in
+    let b : nodes_in table' ≡ nodes ++ (node_of (kind_of t.term) ∷ []) = ap nodes_in e ∙ map-append (λ (m : LocatedNode). m.node) table (located (kind_of t.term) n ∷ []) in
+    let d : lines_in table' ≡ lines ++ (n ∷ []) = ap lines_in e ∙ map-append (λ (m : LocatedNode). m.line) table (located (kind_of t.term) n ∷ []) in
     let x : Term = t.term in
     let us : Terms = t.terms-after in
     let r : reverse after ≡ t.below ++ reverse rest = ap reverse a ∙ reverse-append rest (reverse t.below) ∙ ap (λ ys. ys ++ reverse rest) (reverse-reverse t.below) in
@@ -104,9 +114,11 @@ write_none : {es : List Entry} {ps : List ℕ} {ts : Terms} {ls : List ℕ} → 
 write_none no_parts e = (refl, refl)
 write_none (more_parts w ws) e = absurd (let z : ◌≡◌ {A = ℕ} 0 1 = cc in omega arith)
 
-pub ended : (es : List Entry) (stack : List ℕ) (nodes : List Node) (lines : List ℕ) → stack ≡ [] → Underway es stack nodes lines → Tabled es nodes lines
-ended es stack nodes lines e u =
+pub ended : (es : List Entry) (stack : List ℕ) (table : List LocatedNode) → stack ≡ [] → Underway es stack table → Tabled es table
+ended es stack table e u =
     let n = write_none u.writes (ap reverse e) in
+    let nodes : List Node = nodes_in table in
+    let lines : List ℕ = lines_in table in
     let l : lines ≡ u.whole.lines = sym (append-nil lines) ∙ ap (λ xs. lines ++ xs) (sym n.1) ∙ u.lines-whole in
     record {
       term = u.whole.term;
@@ -123,9 +135,9 @@ mutual
   write_long no_parts = omega arith
   write_long (more_parts {ls = ls} {ms = ms} w ws) = omega (arith, writes_some w, write_long ws, length-append ls ms)
 
-whole-few : (es : List Entry) (stack : List ℕ) (nodes : List Node) (lines : List ℕ) → Placed es → (u : Underway es stack nodes lines) → length lines + length u.left ≤ length es
-whole-few es stack nodes lines p u =
-    omega (arith, length-append lines u.left, ap length u.lines-whole, few 1 (length es) u.whole.lines (writes-range u.whole.writes) (writes-once es u.whole.term u.whole.lines p u.whole.writes))
+whole-few : (es : List Entry) (stack : List ℕ) (table : List LocatedNode) → Placed es → (u : Underway es stack table) → length table + length u.left ≤ length es
+whole-few es stack table p u =
+    omega (arith, length-map table (λ n. n.line), length-append (lines_in table) u.left, ap length u.lines-whole, few 1 (length es) u.whole.lines (writes-range u.whole.writes) (writes-once es u.whole.term u.whole.lines p u.whole.writes))
 
 -- The entry of a line of the code.
 line-entry : {es : List Entry} {n : ℕ} {e : Entry} → Line es n e → (xs : List CodeLine) (d : CodeLine) → es ≡ entries xs → e ≡ entry (get_or xs (n - 1) d)
@@ -139,20 +151,20 @@ line-entry {n = n} (later_line {n = m} l) (x ∷ xs) d h =
     g ∙ ap (λ i. entry (get_or (x ∷ xs) i d)) k
 
 -- One turn of the walk, which takes the line n from the stack.
-pub record Turn (xs : List CodeLine) (rest : List ℕ) (n : ℕ) (nodes : List Node) (lines : List ℕ) : Type 0 where
+pub record Turn (xs : List CodeLine) (rest : List ℕ) (n : ℕ) (table : List LocatedNode) : Type 0 where
   pub low : 1 ≤ n
   pub high : n ≤ length xs
-  pub room : length lines < length xs
+  pub room : length table < length xs
   pub stack_room : (x : CodeLine) → x ≡ get_or xs (n - 1) x → length rest + x.parts.count ≤ length xs
-  pub next : (x : CodeLine) → x ≡ get_or xs (n - 1) x → (after : List ℕ) (nodes' : List Node) (lines' : List ℕ) → after ≡ rest ++ reverse (listed x.parts) → nodes' ≡ nodes ++ (node_of x.kind ∷ []) → lines' ≡ lines ++ (n ∷ []) → Underway (entries xs) after nodes' lines'
+  pub next : (x : CodeLine) → x ≡ get_or xs (n - 1) x → (after : List ℕ) (table' : List LocatedNode) → after ≡ rest ++ reverse (listed x.parts) → table' ≡ table ++ (located x.kind n ∷ []) → Underway (entries xs) after table'
 
-pub turn : (xs : List CodeLine) (stack rest : List ℕ) (n : ℕ) (nodes : List Node) (lines : List ℕ) → Placed (entries xs) → stack ≡ rest ++ (n ∷ []) → Underway (entries xs) stack nodes lines → Turn xs rest n nodes lines
-turn xs stack rest n nodes lines p e u =
+pub turn : (xs : List CodeLine) (stack rest : List ℕ) (n : ℕ) (table : List LocatedNode) → Placed (entries xs) → stack ≡ rest ++ (n ∷ []) → Underway (entries xs) stack table → Turn xs rest n table
+turn xs stack rest n table p e u =
     let es : List Entry = entries xs in
-    let t = top es stack rest n nodes lines e u in
+    let t = top es stack rest n table e u in
     let r = line-range t.says in
     let m : length es ≡ length xs = length-map xs entry in
-    let w = whole-few es stack nodes lines p u in
+    let w = whole-few es stack table p u in
     let l : length u.left ≡ 1 + (length t.lines + length t.left_after) = omega (arith, ap length t.left_is, length-append t.lines t.left_after) in
     let a = write_long t.writes in
     let b = write_long t.writes-after in
@@ -164,10 +176,9 @@ turn xs stack rest n nodes lines p e u =
           let q : (kind_of t.term, t.below) ≡ entry x = line-entry t.says xs x refl ∙ ap entry (sym d) in
           let k : length t.below ≡ length (listed x.parts) = ap (λ (y : Entry). length y.1) q in
           omega (arith, listed-length x.parts, length-reverse rest);
-      next = λ x d after nodes' lines' f g h.
+      next = λ x d after table' f g.
           let q : (kind_of t.term, t.below) ≡ entry x = line-entry t.says xs x refl ∙ ap entry (sym d) in
-          steps es stack rest after n nodes nodes' lines lines' u t
+          steps es stack rest after n table table' u t
           (f ∙ ap (λ (y : Entry). rest ++ reverse y.1) (sym q))
-          (g ∙ ap (λ (y : Entry). nodes ++ (node_of y.0 ∷ [])) (sym q))
-          h;
+          (g ∙ ap (λ (y : Entry). table ++ (located y.0 n ∷ [])) (sym q));
     }

@@ -1,6 +1,7 @@
 pub mod Refusal
 pub mod Entry
 pub mod Sheet
+pub mod Located
 pub mod Split
 pub mod Numeral
 pub mod Fields

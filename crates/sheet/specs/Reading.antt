@@ -4,6 +4,7 @@ use Rattle.terms.specs.Term.{Term, bit, Terms, none, part}
 use Rattle.terms.specs.Flat.{kind_of, parts}
 use Rattle.terms.specs.Parse.{term}
 use Rattle.sheet.specs.Entry.{Entry}
+use Rattle.sheet.specs.Located.{nodes_in, lines_in}
 use Rattle.sheet.specs.Sheet.{Sized, Malformed, Misplaced, Unused, Says}
 use Rattle.sheet.specs.declared.refusal.Rule.{Rule}
 use Rattle.sheet.specs.declared.refusal.Rule.TheVariants.{Form, Size, Part, Unbound, Misused, Shut, Repeated}
@@ -26,10 +27,10 @@ mutual
 
 -- The term of a program that was read, and the lines of its nodes.
 abbrev pub term_of : Program → Term
-term_of p = term (vec_items p.nodes)
+term_of p = term (nodes_in (vec_items p.table))
 
 abbrev pub lines_of : Program → List ℕ
-lines_of p = vec_items p.lines
+lines_of p = lines_in (vec_items p.table)
 
 -- The program holds what the sheet says: its last line is the whole term.
 pub record HoldsSheet (bs : List ℕ) (p : Program) : Type 0 where

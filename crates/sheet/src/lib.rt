@@ -5,6 +5,7 @@ ghost use Rattle.std.specs.Prelude.{◌≡◌, IfOk};
 ghost use Rattle.sheet.specs.Reading.{HoldsZero, Reads, ReadingIsDetermined};
 
 use lines::read_lines;
+use located::LocatedNode;
 use program::Program;
 use refusal::Refusal;
 use std::alloc::{AllocError, Global};
@@ -14,6 +15,7 @@ use terms::{Kind, Node};
 
 mod line;
 mod lines;
+pub mod located;
 mod parse;
 pub mod program;
 mod reader;
@@ -28,27 +30,20 @@ impl Program {
     pub fn new(heap: Global) -> Result<Program, AllocError>
         ensures { IfOk result (λ p. HoldsZero p) }
     {
-        let mut nodes = Vec::with_capacity(heap, 4096)?;
-        let mut lines = Vec::with_capacity(heap, 4096)?;
-        nodes.push_reserved(Node {
-            kind: Kind::Constant(false),
+        let mut table = Vec::with_capacity(heap, 4096)?;
+        let kind = Kind::Constant(false);
+        table.push_reserved(LocatedNode {
+            node: Node { kind },
+            line: 1,
         });
-        lines.push_reserved(1);
-        Ok(Program { nodes, lines })
+        Ok(Program { table })
     }
 
-    /// The nodes in the order of their numbers.
-    pub fn nodes(&self) -> &Vec<Node>
-        ensures { result.now ≡ self.now.nodes }
+    /// The nodes in the order of their numbers, each with its line.
+    pub fn table(&self) -> &Vec<LocatedNode>
+        ensures { result.now ≡ self.now.table }
     {
-        &self.nodes
-    }
-
-    /// Each node's line.
-    pub fn lines(&self) -> &Vec<u16>
-        ensures { result.now ≡ self.now.lines }
-    {
-        &self.lines
+        &self.table
     }
 }
 
@@ -71,12 +66,7 @@ pub fn read(sheet: &[u8], storage: &mut ReadStorage, place: &mut Program) -> Res
     ensures { Reads sheet.now result place.old place.new }
 {
     read_lines(sheet, &mut storage.sheet_lines, &mut storage.used)?;
-    fill_table(
-        &storage.sheet_lines,
-        &mut storage.pending,
-        &mut place.nodes,
-        &mut place.lines,
-    );
+    fill_table(&storage.sheet_lines, &mut storage.pending, &mut place.table);
     Ok(())
 }
 

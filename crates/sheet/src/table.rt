@@ -6,6 +6,7 @@ ghost use Rattle.sheet.specs.Entries.{listed, entries};
 ghost use Rattle.sheet.specs.Tables.{Tabled};
 
 use crate::line::{Line, Numbers};
+use crate::located::LocatedNode;
 use terms::Node;
 
 /// Puts the numbers on the stack, the first on top.
@@ -21,34 +22,32 @@ fn push_all(numbers: Numbers, stack: &mut Vec<u16>)
     }
 }
 
-/// Puts the nodes of the last line's term into `nodes`, in the order of their numbers, and their lines into `lines`.
+/// Puts the nodes of the last line's term into `table`, in the order of their numbers, each with its line.
 /// `pending` is a stack of lines whose terms are still to come.
 pub(crate) fn fill_table(
     sheet_lines: &Vec<Line>,
     pending: &mut Vec<u16>,
-    nodes: &mut Vec<Node>,
-    lines: &mut Vec<u16>,
+    table: &mut Vec<LocatedNode>,
 )
     requires some { 0 < vec_len sheet_lines.now }
     requires few { vec_len sheet_lines.now ≤ 4096 }
     requires proper { Each Proper (entries sheet_lines.now.items) }
     requires placed { Placed (entries sheet_lines.now.items) }
     requires pending_room { 4096 ≤ vec_capacity pending.old }
-    requires node_room { 4096 ≤ vec_capacity nodes.old }
-    requires line_room { 4096 ≤ vec_capacity lines.old }
-    ensures table { Tabled (entries sheet_lines.now.items) nodes.new.items lines.new.items }
+    requires table_room { 4096 ≤ vec_capacity table.old }
+    ensures tabled { Tabled (entries sheet_lines.now.items) table.new.items }
     ensures pending_room { 4096 ≤ vec_capacity pending.new }
-    ensures node_room { 4096 ≤ vec_capacity nodes.new }
-    ensures line_room { 4096 ≤ vec_capacity lines.new }
+    ensures table_room { 4096 ≤ vec_capacity table.new }
 {
     pending.clear();
-    nodes.clear();
-    lines.clear();
+    table.clear();
     pending.push_reserved(sheet_lines.len() as u16);
     while let Some(line) = pending.pop() {
         let Line { kind, parts } = sheet_lines[line as usize - 1];
-        nodes.push_reserved(Node { kind });
-        lines.push_reserved(line);
+        table.push_reserved(LocatedNode {
+            node: Node { kind },
+            line,
+        });
         push_all(parts, pending);
     }
 }

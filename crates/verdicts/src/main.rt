@@ -7,7 +7,7 @@ use std::io::Read;
 fn print_verdict(rt: &HostRuntime, intake: &mut Intake, sheet: &[u8]) -> anyhow::Result<()> {
     match intake.take_in(sheet) {
         Ok(()) => {
-            let nodes = intake.accepted.program.nodes().len();
+            let nodes = intake.accepted.program.table().len();
             println!(rt; "A\t{nodes}")?;
         }
         Err(refusal) => {

@@ -18,28 +18,24 @@ fill_table-requires c =
       proper = b.proper;
       placed = b.placed;
       pending_room = c.args.storage.now.pending_room;
-      node_room = c.args.place.now.node_room;
-      line_room = c.args.place.now.line_room;
+      table_room = c.args.place.now.room;
     }
 
 -- What the place now holds.
-held : (c : goal.After-fill_table) → Filled (entries (vec_items c.read_lines.new.sheet_lines)) (vec_items c.fill_table.new.nodes) (vec_items c.fill_table.new.lines)
-held c = filled c.args.sheet.now (entries (vec_items c.read_lines.new.sheet_lines)) (vec_items c.fill_table.new.nodes) (vec_items c.fill_table.new.lines) c.in_ok-read_lines.ensures.lined.begins c.fill_table.ensures.table
+held : (c : goal.After-fill_table) → Filled (entries (vec_items c.read_lines.new.sheet_lines)) (vec_items c.fill_table.new.table)
+held c = filled c.args.sheet.now (entries (vec_items c.read_lines.new.sheet_lines)) (vec_items c.fill_table.new.table) c.in_ok-read_lines.ensures.lined.begins c.fill_table.ensures.tabled
 
 pub invariant_of-place : goal.invariant_of-place
 invariant_of-place c =
     let f = held (goal.at.invariant_of-place c).After-fill_table in
-    let n = c.fill_table.new.nodes.ok.0 in
-    let l = c.fill_table.new.lines.ok.0 in
+    let n = c.fill_table.new.table.ok.0 in
     record {
       tree = f.tree;
       formed = f.formed;
       few = omega (arith, f.few_nodes);
-      paired = omega (arith, f.paired);
       numbered = λ k h. f.numbered k (omega arith);
       apart = f.apart;
-      node_room = c.fill_table.ensures.node_room;
-      line_room = c.fill_table.ensures.line_room;
+      room = c.fill_table.ensures.table_room;
     }
 
 pub returns : goal.returns

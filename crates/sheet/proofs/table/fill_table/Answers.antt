@@ -13,16 +13,14 @@ loop-line-init c =
     let k : length (entries xs) ≡ c.len.result = omega (arith, c.len.ensures) in
     let p : vec_items c.push_reserved.new.self ≡ length (entries xs) ∷ [] =
     c.push_reserved.ensures.items ∙ ap (λ ys. ys ++ (c.len.result ∷ [])) c.clear.ensures.items ∙ ap (λ n. n ∷ []) (sym k) in (
-      starts (entries xs) _ _ _ c.requires.proper c.requires.placed (omega (arith, c.requires.some)) p c.clear-2.ensures.items c.clear-3.ensures.items,
-      c.clear-2.ensures.len ∙ sym c.clear-3.ensures.len,
+      starts (entries xs) _ _ c.requires.proper c.requires.placed (omega (arith, c.requires.some)) p c.clear-2.ensures.items,
       omega (arith, c.push_reserved.ensures.capacity, c.clear.ensures.capacity, c.requires.pending_room),
-      omega (arith, c.clear-2.ensures.capacity, c.requires.node_room),
-      omega (arith, c.clear-3.ensures.capacity, c.requires.line_room),
+      omega (arith, c.clear-2.ensures.capacity, c.requires.table_room),
     )
 
 -- What the line on top of the stack says.
-taken : (c : goal.In-Some) → Turn (vec_items c.args.sheet_lines.now) (vec_items c.pop.new.self) c.in-Some.line (vec_items c.loop-line.nodes) (vec_items c.loop-line.lines)
-taken c = turn (vec_items c.args.sheet_lines.now) (vec_items c.loop-line.pending) (vec_items c.pop.new.self) c.in-Some.line (vec_items c.loop-line.nodes) (vec_items c.loop-line.lines) c.requires.placed c.in-Some.ensures.items c.loop-line.invariant.0
+taken : (c : goal.In-Some) → Turn (vec_items c.args.sheet_lines.now) (vec_items c.pop.new.self) c.in-Some.line (vec_items c.loop-line.table)
+taken c = turn (vec_items c.args.sheet_lines.now) (vec_items c.loop-line.pending) (vec_items c.pop.new.self) c.in-Some.line (vec_items c.loop-line.table) c.requires.placed c.in-Some.ensures.items c.loop-line.invariant.0
 
 pub overflow_sub-line : goal.overflow_sub-line
 overflow_sub-line c = (taken (goal.at.overflow_sub-line c).In-Some).low
@@ -32,36 +30,29 @@ index-requires c = let t = taken (goal.at.index-requires c).In-Some in omega (ar
 
 pub push_reserved-requires-in-Some : goal.push_reserved-requires-in-Some
 push_reserved-requires-in-Some c =
-    omega (arith, (taken (goal.at.push_reserved-requires-in-Some c).In-Some).room, c.args.sheet_lines.now.ok.0, c.requires.few, c.loop-line.lines.ok.0, c.loop-line.invariant.1, c.loop-line.invariant.3)
-
-pub push_reserved-requires-in-Some-2 : goal.push_reserved-requires-in-Some-2
-push_reserved-requires-in-Some-2 c =
-    omega (arith, (taken (goal.at.push_reserved-requires-in-Some-2 c).In-Some).room, c.args.sheet_lines.now.ok.0, c.requires.few, c.loop-line.lines.ok.0, c.loop-line.invariant.4)
+    omega (arith, (taken (goal.at.push_reserved-requires-in-Some c).In-Some).room, c.args.sheet_lines.now.ok.0, c.requires.few, c.loop-line.table.ok.0, c.loop-line.invariant.2)
 
 pub push_all-requires : goal.push_all-requires
 push_all-requires c =
     let t = taken (goal.at.push_all-requires c).In-Some in
-    omega (arith, t.stack_room c.index.result.now c.index.ensures, c.args.sheet_lines.now.ok.0, c.requires.few, c.pop.new.self.ok.0, c.in-Some.ensures.capacity, c.loop-line.invariant.2)
+    omega (arith, t.stack_room c.index.result.now c.index.ensures, c.args.sheet_lines.now.ok.0, c.requires.few, c.pop.new.self.ok.0, c.in-Some.ensures.capacity, c.loop-line.invariant.1)
 
 pub loop-line-smaller : goal.loop-line-smaller
 loop-line-smaller c =
-    omega (arith, (taken (goal.at.loop-line-smaller c).In-Some).room, c.args.sheet_lines.now.ok.0, c.requires.few, c.loop-line.lines.ok.0, c.push_reserved-in-Some-2.ensures.len)
+    omega (arith, (taken (goal.at.loop-line-smaller c).In-Some).room, c.args.sheet_lines.now.ok.0, c.requires.few, c.loop-line.table.ok.0, c.push_reserved-in-Some.ensures.len)
 
 pub loop-line-preserved : goal.loop-line-preserved
 loop-line-preserved c = (
-  (taken (goal.at.loop-line-preserved c).In-Some).next c.index.result.now c.index.ensures _ _ _ c.push_all.ensures.items c.push_reserved-in-Some.ensures.items c.push_reserved-in-Some-2.ensures.items,
-  omega (arith, c.push_reserved-in-Some.ensures.len, c.push_reserved-in-Some-2.ensures.len, c.loop-line.invariant.1),
-  omega (arith, c.push_all.ensures.capacity, c.in-Some.ensures.capacity, c.loop-line.invariant.2),
-  omega (arith, c.push_reserved-in-Some.ensures.capacity, c.loop-line.invariant.3),
-  omega (arith, c.push_reserved-in-Some-2.ensures.capacity, c.loop-line.invariant.4),
+  (taken (goal.at.loop-line-preserved c).In-Some).next c.index.result.now c.index.ensures _ _ c.push_all.ensures.items c.push_reserved-in-Some.ensures.items,
+  omega (arith, c.push_all.ensures.capacity, c.in-Some.ensures.capacity, c.loop-line.invariant.1),
+  omega (arith, c.push_reserved-in-Some.ensures.capacity, c.loop-line.invariant.2),
 )
 
 pub returns : goal.returns
 returns c =
     let n : vec_items c.loop-line.pending ≡ [] = nil_from_length (vec_items c.loop-line.pending) (omega (arith, c.in_default.ensures.cases.0, c.loop-line.pending.ok.0)) in
     record {
-      table = ended (entries (vec_items c.args.sheet_lines.now)) (vec_items c.loop-line.pending) (vec_items c.loop-line.nodes) (vec_items c.loop-line.lines) n c.loop-line.invariant.0;
-      pending_room = omega (arith, c.in_default.ensures.capacity, c.loop-line.invariant.2);
-      node_room = c.loop-line.invariant.3;
-      line_room = c.loop-line.invariant.4;
+      tabled = ended (entries (vec_items c.args.sheet_lines.now)) (vec_items c.loop-line.pending) (vec_items c.loop-line.table) n c.loop-line.invariant.0;
+      pending_room = omega (arith, c.in_default.ensures.capacity, c.loop-line.invariant.1);
+      table_room = c.loop-line.invariant.2;
     }

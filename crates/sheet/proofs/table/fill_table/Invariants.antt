@@ -1,15 +1,13 @@
-use Rattle.std.proofs.Common.{◌≡◌, ◌-◌, ◌≤◌, vec_items, vec_len, vec_capacity}
+use Rattle.std.proofs.Common.{◌-◌, ◌≤◌, vec_items, vec_len, vec_capacity}
 use Rattle.sheet.specs.Entries.{entries}
 use Rattle.sheet.proofs.Stacking.{Underway}
 use Rattle.sheet.proofs.table.fill_table.Given as goal
 
 abbrev pub invariant-loop-line : goal.invariant-loop-line
 invariant-loop-line l =
-    Underway (entries (vec_items l.sheet_lines)) (vec_items l.pending) (vec_items l.nodes) (vec_items l.lines)
-    × (vec_len l.nodes ≡ vec_len l.lines)
+    Underway (entries (vec_items l.sheet_lines)) (vec_items l.pending) (vec_items l.table)
     × (4096 ≤ vec_capacity l.pending)
-    × (4096 ≤ vec_capacity l.nodes)
-    × (4096 ≤ vec_capacity l.lines)
+    × (4096 ≤ vec_capacity l.table)
 
 abbrev pub decreases-loop-line : goal.decreases-loop-line
-decreases-loop-line l = 4097 - vec_len l.lines
+decreases-loop-line l = 4097 - vec_len l.table
