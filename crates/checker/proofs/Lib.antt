@@ -1,3 +1,6 @@
+pub mod Tables
+pub mod Resolve
+pub mod Walks
 pub mod Finding
 pub mod Tallies
 pub mod Sited

@@ -1,5 +1,5 @@
 -- What a walk over a table notes of its nodes.
-use Rattle.std.specs.Prelude.{◌≡◌, ℕ, zero, suc, ◌+◌, List, [], ◌∷◌, ◌++◌, map, length, drop, vec_items, vec_len, Vec, nat_lt}
+use Rattle.std.specs.Prelude.{◌≡◌, ℕ, zero, suc, ◌+◌, List, [], ◌∷◌, ◌++◌, length, drop, vec_items, vec_len, Vec, nat_lt}
 use Rattle.std.specs.declared.alloc.Global.{Global}
 use Rattle.terms.specs.Term.{Term, var, wire, bit, gate, new, bang, app, tuple, abs, Terms, none, part, count, size}
 use Rattle.terms.specs.Flat.{flats}
@@ -7,19 +7,12 @@ use Rattle.terms.specs.Shape.{Shapeds}
 use Rattle.terms.specs.declared.Node.{Node}
 use Rattle.terms.specs.declared.Kind.{Kind}
 use Rattle.terms.specs.declared.Kind.TheVariants.{Variable, Wire, Constant, Gate, New, Bang, Application, Tuple, Binder}
-use Rattle.checker.specs.declared.spot.LocatedNode.{LocatedNode}
 use Rattle.checker.specs.declared.role.Frame.{Frame}
 use Rattle.checker.specs.declared.role.Role.{Role}
 use Rattle.checker.specs.declared.role.Role.TheVariants.{Other, Free, Use, Lead, Opening}
 use Rattle.checker.specs.declared.site.Site.{Site}
 use Rattle.checker.specs.Faults.{Scope, frame}
-use Rattle.checker.specs.Loops.{roles, site_lines}
-
-abbrev pub nodes_in : List LocatedNode → List Node
-nodes_in ns = map (λ n. n.node) ns
-
-abbrev pub lines_in : List LocatedNode → List ℕ
-lines_in ns = map (λ n. n.line) ns
+use Rattle.checker.specs.Loops.{roles}
 
 -- The list begins with the nodes of the terms ts.
 pub record Forest (xs : List Node) (ts : Terms) : Type 0 where
@@ -78,11 +71,10 @@ abbrev mutual
   sitess G b m none = []
   sitess G b m (part t ts) = sites G b m t ++ sitess G b (m + size t) ts
 
--- The walk ends at `stop`, has put sites with the roles `ys` and the lines `ls` at the end, and left the frames as they were.
-pub record Walked (stop : ℕ) (ys : List Role) (ls : List ℕ) (r : ℕ) (old new : Vec Site Global) (before after : Vec Frame Global) : Type 0 where
+-- The walk ends at `stop`, has put sites with the roles `ys` at the end, and left the frames as they were.
+pub record Walked (stop : ℕ) (ys : List Role) (r : ℕ) (old new : Vec Site Global) (before after : Vec Frame Global) : Type 0 where
   pub ends : r ≡ stop
   pub as_roles : roles (vec_items new) ≡ roles (vec_items old) ++ ys
-  pub as_lines : site_lines (vec_items new) ≡ site_lines (vec_items old) ++ ls
   pub len : vec_len new ≡ vec_len old + length ys
   pub frames : vec_items after ≡ vec_items before
   pub frames_len : vec_len after ≡ vec_len before

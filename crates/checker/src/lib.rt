@@ -19,7 +19,6 @@ use walk::Walk;
 pub mod accepted;
 mod counts;
 mod firsts;
-mod spot;
 mod role;
 mod rules;
 mod site;
@@ -71,10 +70,10 @@ fn unbroken(rule: Rule, line: Option<u16>) -> Result<(), Refusal>
 }
 
 // The verdict on a program.
-fn verdict(program: &Program, storage: &mut CheckStorage, table: &[spot::LocatedNode]) -> Result<(), Refusal>
+fn verdict(program: &Program, storage: &mut CheckStorage) -> Result<(), Refusal>
     ensures { Decided result program.now }
 {
-    storage.walk.note(table);
+    storage.walk.note(program.table().as_slice());
     storage.judge()
 }
 
@@ -83,11 +82,11 @@ fn verdict(program: &Program, storage: &mut CheckStorage, table: &[spot::Located
 pub fn check(
     program: &mut Program,
     storage: &mut CheckStorage,
-    place: &mut AcceptedProgram, table: &[spot::LocatedNode],
+    place: &mut AcceptedProgram,
 ) -> Result<(), Refusal>
     ensures { Checked result program.old program.new place.old place.new }
 {
-    verdict(program, storage, table)?;
+    verdict(program, storage)?;
     std::mem::swap(program, &mut place.program);
     Ok(())
 }

@@ -3,12 +3,13 @@ ghost use Rattle.std.specs.Prelude.{◌≡◌, ◌+◌, ◌<◌, ◌≤◌, true
 ghost use Rattle.terms.specs.Term.{Terms, count, sizes};
 ghost use Rattle.terms.specs.Parse.{term, HoldsTerm};
 ghost use Rattle.terms.specs.Shape.{shaped};
-ghost use Rattle.checker.specs.Sites.{nodes_in, lines_in, Forest, Stand, resolve, role_at, sites, sitess, Walked};
+ghost use Rattle.sheet.specs.Located.{nodes_in, lines_in};
+ghost use Rattle.checker.specs.Sites.{Forest, Stand, resolve, role_at, sites, sitess, Walked};
 ghost use Rattle.checker.specs.Loops.{roles, site_lines};
 
-use crate::spot::LocatedNode;
 use crate::role::{Frame, Role};
 use crate::site::Site;
+use sheet::located::LocatedNode;
 use std::alloc::{AllocError, Global};
 use terms::{Kind, Node};
 
@@ -42,13 +43,16 @@ impl Walk {
     fn resolved(&self, up: u16, place: u8, bangs: u16) -> Role
         ensures { result ≡ resolve (reverse self.now.frames.items) bangs up place }
     {
-        match self.frames.iter().rev().nth(up as usize) {
-            Some(frame) => Role::Use {
-                binder: frame.number,
-                pattern: frame.pattern,
-                place,
-                banged: frame.depth < bangs,
-            },
+        match self.frames.len().checked_sub(up as usize + 1) {
+            Some(nearest) => {
+                let frame = self.frames[nearest];
+                Role::Use {
+                    binder: frame.number,
+                    pattern: frame.pattern,
+                    place,
+                    banged: frame.depth < bangs,
+                }
+            }
             None => Role::Free,
         }
     }
@@ -85,15 +89,20 @@ impl Walk {
         requires few { bangs ≤ at }
         requires deep { vec_len self.old.frames ≤ at }
         requires noted { vec_len self.old.sites ≡ at }
-        ensures { (ts : Terms) → Forest (drop at (nodes_in table.now)) ts → count ts ≡ pending → Walked (at + sizes ts) (sitess (reverse self.old.frames.items) bangs at ts) (take (sizes ts) (drop at (lines_in table.now))) result self.old.sites self.new.sites self.old.frames self.new.frames }
+        requires lines { site_lines self.old.sites.items ≡ take at (lines_in table.now) }
+        ensures walked { (ts : Terms) → Forest (drop at (nodes_in table.now)) ts → count ts ≡ pending → Walked (at + sizes ts) (sitess (reverse self.old.frames.items) bangs at ts) result self.old.sites self.new.sites self.old.frames self.new.frames }
+        ensures lines { site_lines self.new.sites.items ≡ take result (lines_in table.now) }
     {
         if pending == 0 {
             return at;
         }
-        let LocatedNode { node, line } = table[at];
-        let role = self.role_of(node, at as u16, bangs);
-        self.sites.push_reserved(Site { role, line });
-        match node.kind {
+        let located = table[at];
+        let role = self.role_of(located.node, at as u16, bangs);
+        self.sites.push_reserved(Site {
+            role,
+            line: located.line,
+        });
+        match located.node.kind {
             Kind::Bang => {
                 let after = self.note_terms(table, at + 1, 1, bangs + 1);
                 self.note_terms(table, after, pending - 1, bangs)
@@ -108,7 +117,7 @@ impl Walk {
                 let _own = self.frames.pop();
                 self.note_terms(table, after, pending - 1, bangs)
             }
-            _ => self.note_terms(table, at + 1, pending - 1 + node.parts(), bangs),
+            _ => self.note_terms(table, at + 1, pending - 1 + located.node.parts(), bangs),
         }
     }
 
