@@ -1,9 +1,8 @@
 -- The uses of the variables of each binder.
-use Rattle.std.proofs.Common.{◌≡◌, ℕ, ◌+◌, ◌<◌, ◌≤◌, Bool, true, false, not, ◌&&◌, eqb, ◌⊎◌, List, [], ◌∷◌, length, get_or, take, replicate, set, sym, refl, ap, ◌∙◌, subst, inl, inr, zero-le, le_refl, arith, eq-eqb, eqb-true, length-set}
-use Rattle.std.proofs.lemmas.List.{get_or-set_same, get_or-set_other, get_or-replicate, take_more, length-take-le, take_all, get_or-take, get_or_default}
+use Rattle.std.proofs.Common.{◌≡◌, ℕ, ◌+◌, ◌<◌, ◌≤◌, Bool, true, false, not, ◌&&◌, eqb, List, [], ◌∷◌, length, get_or, take, replicate, set, sym, refl, ap, ◌∙◌, subst, inl, inr, zero-le, arith, eq-eqb, length-set}
+use Rattle.std.proofs.lemmas.List.{get_or-set_same, get_or-set_other, get_or-replicate, take_more, length-take-le, get_or-take, get_or_default}
 use Rattle.std.proofs.lemmas.List.Folds.{Any-from_list_any, list_any_at}
 use Rattle.std.proofs.lemmas.Bool.{cases_eq, ne_eqb}
-use Rattle.std.specs.List.{list_any}
 use Rattle.theory.specs.Acceptance.{one}
 use Rattle.theory.proofs.Equivalence.{one_le}
 use Rattle.checker.specs.declared.role.Role.{Role}

@@ -1,11 +1,11 @@
 -- The smallest line that breaks a rule.
-use Rattle.std.proofs.Common.{◌≡◌, ℕ, zero, suc, ◌<◌, ◌≤◌, min, Bool, true, false, cond, ◌⊎◌, List, [], ◌∷◌, map, filter, length, get_or, Some, None, Option, sym, refl, ap, ◌∙◌, subst, inl, inr, arith, le_refl, zero-le}
+use Rattle.std.proofs.Common.{◌≡◌, ℕ, zero, suc, ◌<◌, ◌≤◌, min, Bool, true, false, cond, List, [], ◌∷◌, filter, length, get_or, Some, None, Option, sym, refl, ap, ◌∙◌, subst, inl, inr, arith, le_refl}
 use Rattle.std.specs.List.{fold, reduce}
 use Rattle.std.proofs.lemmas.Bool.{cases_lt}
 use Rattle.checker.specs.declared.role.Role.{Role}
 use Rattle.checker.specs.declared.role.Role.TheVariants.{Other}
 use Rattle.checker.specs.declared.site.Site.{Site}
-use Rattle.checker.specs.Loops.{roles, site_lines, least_line, earlier, Earliest, Found}
+use Rattle.checker.specs.Loops.{roles, site_lines, least_line, earlier, Found}
 use Rattle.checker.specs.Faults.{Nowhere, Least}
 
 -- A site more at the front.

@@ -1,9 +1,17 @@
 pub mod Tables
 pub mod Resolve
 pub mod Walks
+pub mod Located
 pub mod Finding
+pub mod Showing
+pub mod Faultless
 pub mod Tallies
+pub mod Tally
+pub mod Wires
+pub mod Uses
 pub mod Sited
 pub mod Counting
 pub mod Noting
+pub mod Judging
+pub mod Checking
 pub mod Deciding

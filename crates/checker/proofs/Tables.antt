@@ -1,9 +1,9 @@
 -- A table where terms stand, taken node by node.
-use Rattle.std.proofs.Common.{◌≡◌, ℕ, ◌+◌, ◌-◌, ◌<◌, ◌≤◌, List, ◌∷◌, ◌++◌, length, get_or, drop, vec_items, vec_len, Vec, sym, refl, ap, ◌∙◌, append_assoc, arith, length-append, length-drop}
-use Rattle.std.specs.declared.alloc.Global.{Global}
+use Rattle.std.proofs.Common.{◌≡◌, ℕ, ◌+◌, ◌-◌, ◌<◌, ◌≤◌, List, [], ◌∷◌, ◌++◌, length, get_or, drop, sym, refl, ap, ◌∙◌, append_assoc, append-nil, arith, length-append, length-drop}
 use Rattle.std.proofs.lemmas.List.{drop_more}
 use Rattle.terms.specs.Term.{Term, Terms, none, part, sizes, count}
-use Rattle.terms.specs.Flat.{part_count, flats, node, parts}
+use Rattle.terms.specs.Flat.{part_count, flat, flats, node, parts}
+use Rattle.terms.specs.Parse.{term, HoldsTerm}
 use Rattle.terms.specs.declared.Node.{Node}
 use Rattle.terms.proofs.Forests.{join, length-flats, flat-node, count-parts, size-parts, flats-join, count-join, sizes-join}
 use Rattle.checker.specs.Sites.{Forest}
@@ -46,3 +46,7 @@ pub fits-table : (xs : List Node) (at : ℕ) (ts : Terms) → Forest (drop at xs
 fits-table xs at ts f =
     let l : length (drop at xs) ≡ sizes ts + length f.rest = ap length f.is ∙ length-append (flats ts) f.rest ∙ ap (λ (n : ℕ). n + length f.rest) (length-flats ts) in
     omega (arith, length-drop at xs, l)
+
+-- The table of a whole term.
+pub whole : (xs : List Node) → HoldsTerm xs → Forest (drop 0 xs) (part (term xs) none)
+whole xs e = record { rest = []; is = e ∙ sym (append-nil (flat (term xs))) ∙ sym (append-nil (flat (term xs) ++ [])) }

@@ -1,5 +1,5 @@
 -- What the role of a node says by itself.
-use Rattle.std.specs.Prelude.{ℕ, ◌<◌, ◌≤◌, Bool, true, false, cond, nat_le, nat_lt}
+use Rattle.std.specs.Prelude.{◌<◌, ◌≤◌, Bool, true, false, cond, nat_le, nat_lt}
 use Rattle.std.specs.Coded.{×_prop, Unit-prop, le_prop}
 use Rattle.theory.specs.Acceptance.{arity}
 use Rattle.checker.specs.declared.role.Role.{Role}

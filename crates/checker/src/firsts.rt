@@ -40,8 +40,8 @@ impl FirstLines {
         ensures { result ≡ repeated_role self.now.lines.items site.now.role site.now.line }
     {
         match site.role {
-            Role::Lead { wire, .. } =>
-                self.lines[wire as usize].is_some_and(|first| first < site.line),
+            Role::Lead { wire, .. } => self.lines[wire as usize].is_some_and(|first| first
+                < site.line),
             _ => false,
         }
     }

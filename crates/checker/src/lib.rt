@@ -56,7 +56,10 @@ impl CheckStorage {
         unbroken(Rule::Unbound, first_line(sites, is_unbound))?;
         self.counts.count(sites);
         let counts = &self.counts;
-        unbroken(Rule::Misused, first_line(sites, |site| counts.is_misused(site)))?;
+        unbroken(
+            Rule::Misused,
+            first_line(sites, |site| counts.is_misused(site)),
+        )?;
         unbroken(Rule::Shut, first_line(sites, is_shut))?;
         unbroken(Rule::Repeated, self.firsts.first_repeated(sites))
     }

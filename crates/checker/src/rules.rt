@@ -16,12 +16,12 @@ pub(crate) fn first_line<F: Fn(&Site) -> bool>(sites: &[Site], breaks: F) -> Opt
 {
     sites
         .iter()
-        .filter(|site|
-            requires { F.IsAlwaysCallable breaks }
-            ensures { F.post breaks site.entry.now result }
-        {
-            breaks(site)
-        })
+        .filter(
+            |site|
+                requires { F.IsAlwaysCallable breaks }
+                ensures { F.post breaks site.entry.now result }
+            { breaks(site) },
+        )
         .map(|site| site.line)
         .min()
 }

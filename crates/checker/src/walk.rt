@@ -77,13 +77,7 @@ impl Walk {
 
     // Notes the sites of the `pending` terms that stand from `at` on, within `bangs` bangs. Answers the number after
     // their last node.
-    fn note_terms(
-        &mut self,
-        table: &[LocatedNode],
-        at: usize,
-        pending: usize,
-        bangs: u16,
-    ) -> usize
+    fn note_terms(&mut self, table: &[LocatedNode], at: usize, pending: usize, bangs: u16) -> usize
         requires small { length table.now ≤ 4096 }
         requires stand { Stand (nodes_in table.now) at pending }
         requires few { bangs ≤ at }

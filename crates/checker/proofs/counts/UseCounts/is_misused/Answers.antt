@@ -1,4 +1,4 @@
-use Rattle.std.proofs.Common.{◌≡◌, ◌<◌, ℕ, List, eqb, not, length, get_or, take, [], rules, arith, ◌∙◌, ap, subst}
+use Rattle.std.proofs.Common.{◌<◌, eqb, not, length, get_or, take, [], rules, arith, ◌∙◌, ap, subst}
 use borrow.Author.Tests.{tests}
 use Rattle.std.proofs.lemmas.List.{get_or_read}
 use Rattle.std.proofs.lemmas.Iterator.{YieldsList-from_slice}

@@ -1,12 +1,8 @@
-use Rattle.std.proofs.Common.{◌≡◌, ℕ, ◌+◌, ◌≤◌, Bool, true, List, Option, [], length, get_or, take, vec_items, sym, subst, ◌∙◌, refl, rules, arith}
-use Rattle.std.proofs.lemmas.List.{length-map, get_or-map}
-use Rattle.checker.specs.declared.role.Role.{Role}
-use Rattle.checker.specs.declared.role.Role.TheVariants.{Other}
+use Rattle.std.proofs.Common.{◌≡◌, ℕ, ◌+◌, ◌≤◌, List, Option, length, vec_items, sym, subst, rules, arith}
 use Rattle.checker.specs.declared.site.Site.{Site}
-use Rattle.checker.specs.Loops.{roles, site_lines, Found, Firsts, RepeatSite, Wiped, repeated_role}
-use Rattle.checker.proofs.Finding.{Passes, least_found, found_same}
+use Rattle.checker.specs.Loops.{roles, site_lines, Firsts, Wiped, repeated_role}
 use Rattle.checker.proofs.Sited.{role_is, line_is}
-use Rattle.checker.proofs.Noting.{blank_firsts, noted_more, repeats_found, wiped_start, wiped-end, wiped_more}
+use Rattle.checker.proofs.Noting.{blank_firsts, noted_more, repeats_found, wiped_more}
 use Rattle.checker.proofs.firsts.FirstLines.first_repeated.Goals as goal
 
 pub loop-site-init : goal.loop-site-init

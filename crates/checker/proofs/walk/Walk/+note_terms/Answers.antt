@@ -1,10 +1,6 @@
-use Rattle.std.proofs.Common.{◌≡◌, ◌+◌, ◌<◌, ◌≤◌, length, reverse, vec_items, vec_len, sym, refl, ◌∙◌, append-nil, arith, All}
-use Rattle.std.proofs.lemmas.List.Elements.{All-push}
+use Rattle.std.proofs.Common.{◌≡◌, ◌+◌, reverse, vec_items, sym, refl, ◌∙◌, append-nil, arith}
 use Rattle.terms.specs.Term.{none, part, size}
-use Rattle.terms.specs.declared.Kind.TheVariants.{Bang, Binder}
 use Rattle.checker.specs.declared.role.Role.TheVariants.{Other, Opening}
-use Rattle.checker.specs.Faults.{frame}
-use Rattle.checker.specs.Sites.{role_at}
 use Rattle.checker.proofs.Walks as walks
 use Rattle.checker.proofs.walk.Walk.+note_terms.Goals as goal
 

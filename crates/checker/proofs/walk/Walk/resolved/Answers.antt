@@ -1,4 +1,4 @@
-use Rattle.std.proofs.Common.{length, inl, inr, ◌≤◌, refl, sym, ◌≡◌, ◌-◌, arith}
+use Rattle.std.proofs.Common.{length, inl, inr, refl, sym, ◌≡◌, ◌-◌, arith}
 use Rattle.std.proofs.lemmas.Bool.{cases_lt}
 use Rattle.checker.proofs.Resolve.{resolve_stack, resolve_none}
 use Rattle.checker.proofs.walk.Walk.resolved.Goals as goal
