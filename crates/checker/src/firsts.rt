@@ -29,9 +29,8 @@ impl FirstLines {
         ensures { self.new.lines.items ≡ noted site.now.role site.now.line self.old.lines.items }
     {
         if let Role::Lead { wire, .. } = site.role {
-            let first = self.lines[wire as usize];
-            let least = first.map_or(site.line, |line| line.min(site.line));
-            self.lines[wire as usize] = Some(least);
+            let first = &mut self.lines[wire as usize];
+            *first = Some(first.map_or(site.line, |line| line.min(site.line)));
         }
     }
 

@@ -38,13 +38,10 @@ impl AcceptedProgram {
 impl CheckStorage {
     /// Reserves the memory for checking programs of up to 4,096 nodes.
     pub fn new(heap: Global) -> Result<CheckStorage, AllocError> {
-        let walk = Walk::new(heap)?;
-        let counts = UseCounts::new(heap)?;
-        let firsts = FirstLines::new(heap)?;
         Ok(CheckStorage {
-            walk,
-            counts,
-            firsts,
+            walk: Walk::new(heap)?,
+            counts: UseCounts::new(heap)?,
+            firsts: FirstLines::new(heap)?,
         })
     }
 
@@ -55,10 +52,9 @@ impl CheckStorage {
         let sites = self.walk.sites();
         unbroken(Rule::Unbound, first_line(sites, is_unbound))?;
         self.counts.count(sites);
-        let counts = &self.counts;
         unbroken(
             Rule::Misused,
-            first_line(sites, |site| counts.is_misused(site)),
+            first_line(sites, |site| self.counts.is_misused(site)),
         )?;
         unbroken(Rule::Shut, first_line(sites, is_shut))?;
         unbroken(Rule::Repeated, self.firsts.first_repeated(sites))

@@ -26,20 +26,13 @@ pub(crate) fn first_line<F: Fn(&Site) -> bool>(sites: &[Site], breaks: F) -> Opt
         .min()
 }
 
-// The places of a pattern.
-fn place_count(pattern: u8) -> u8
-    ensures { result ≡ arity pattern }
-{
-    if pattern == 0 { 1 } else { pattern }
-}
-
 /// Whether the site is a variable with no binder, or with a place outside its binder's pattern.
 pub(crate) fn is_unbound(site: &Site) -> bool
     ensures { result ≡ unbound_role site.now.role }
 {
     match site.role {
         Role::Free => true,
-        Role::Use { pattern, place, .. } => place_count(pattern) <= place,
+        Role::Use { pattern, place, .. } => pattern.max(1) <= place,
         _ => false,
     }
 }

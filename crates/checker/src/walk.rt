@@ -27,9 +27,10 @@ pub(crate) struct Walk {
 impl Walk {
     /// Reserves the memory for walks over up to 4,096 nodes.
     pub fn new(heap: Global) -> Result<Walk, AllocError> {
-        let frames = Vec::with_capacity(heap, 4096)?;
-        let sites = Vec::with_capacity(heap, 4096)?;
-        Ok(Walk { frames, sites })
+        Ok(Walk {
+            frames: Vec::with_capacity(heap, 4096)?,
+            sites: Vec::with_capacity(heap, 4096)?,
+        })
     }
 
     /// The sites of the nodes that were walked over.
