@@ -14,12 +14,15 @@ use Rattle.sheet.specs.declared.refusal.Refusal.{Refusal}
 use Rattle.checker.specs.Faults.{Unbound, Misused, Shut, Repeated, Nowhere}
 use Rattle.checker.specs.Verdict.{Breaks, Decided}
 use Rattle.checker.specs.Sites.{sites}
-use Rattle.checker.specs.Loops.{Found, UnboundSite, MisuseSite, ShutSite, RepeatSite, BreaksSites, Judged}
+use Rattle.checker.specs.Found.{Found, UnboundSite, ShutSite}
+use Rattle.checker.specs.Counts.{MisuseSite}
+use Rattle.checker.specs.Firsts.{RepeatSite}
+use Rattle.checker.specs.Judged.{BreaksSites, Judged}
 use Rattle.checker.proofs.Finding.{Shown, nowhere, least}
 use Rattle.checker.proofs.Showing.{unbound-shown, shut_shown}
 use Rattle.checker.proofs.Wires.{repeat_shown}
 use Rattle.checker.proofs.Uses.{misuse_shown}
-use Rattle.checker.proofs.Tally.{Distinct, Faultless, faultless_is_accepted}
+use Rattle.checker.proofs.Accepting.{Distinct, Faultless, faultless_is_accepted}
 
 module _ (t : Term) (lines : List ℕ) (long : length lines ≡ size t) where
   unbound-here : Shown (Unbound t) (UnboundSite (sites [] 0 0 t)) (length lines)

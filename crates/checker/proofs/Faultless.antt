@@ -1,6 +1,5 @@
 -- No fault at any node: the properties of an accepted term.
-use Rattle.std.proofs.Common.{◌≡◌, ℕ, zero, suc, ◌+◌, ◌<◌, ◌≤◌, Bool, true, false, cond, ltb, [], ◌∷◌, sym, refl, ap, ◌∙◌, inl, inr, zero-le, le_refl, arith, le-ltb, lt-ltb}
-use borrow.Author.Tests.{clash}
+use Rattle.std.proofs.Common.{◌≡◌, ℕ, zero, suc, ◌+◌, ◌<◌, ◌≤◌, Bool, true, false, ◌&&◌, ltb, [], ◌∷◌, sym, refl, ap, ◌∙◌, inl, inr, zero-le, le_refl, arith, le-ltb, lt-ltb}
 use Rattle.std.proofs.lemmas.Bool.{cases_Bool, cases_eq, false_from_ne_true}
 use Rattle.terms.specs.Term.{Term, var, wire, bit, gate, new, bang, app, tuple, abs, Terms, none, part, size}
 use Rattle.theory.specs.Acceptance.{Item, slot, lead, below, inner, weigh, weighs, one, uses, linear, Patterns, Bound, bound, pattern, Bounded, Boundeds, Once, Onces, Clear, Clears}
@@ -14,7 +13,7 @@ use Rattle.checker.proofs.Showing.{shut_of, shut_resolve}
 
 -- Variables.
 bound_stable : (G : Patterns) (u p : ℕ) → ((Bound G u p → ⊥) → ⊥) → Bound G u p
-bound_stable G u p h = elim (cases_Bool (bound G u p)) [ inl e ↦ (decides_bound G u p).0 e | inr e ↦ absurd (h (λ k. clash (sym e ∙ (decides_bound G u p).1 k))) ]
+bound_stable G u p h = elim (cases_Bool (bound G u p)) [ inl e ↦ (decides_bound G u p).0 e | inr e ↦ absurd (h (λ k. cc (e, (decides_bound G u p).1 k))) ]
 
 mutual
   bounded : (G : Scope) (b m : ℕ) (t : Term) → ((n : ℕ) (H : Scope) (c u p : ℕ) → At G b m t n H c (var u p) → Bound (patterns H) u p) → Bounded (patterns G) t
@@ -114,15 +113,15 @@ strained-linear : (G : Scope) (b : ℕ) → Shallow G b → (i : Item) → strai
 strained-linear G b h (slot u p) = linear-slot G b u p h
 strained-linear G b h (lead k) = let l : 0 < b + 1 = omega arith in rw (lt-ltb 0 (b + 1) l) refl
 
-one_cond : (x y z : Bool) → (x ≡ true → y ≡ true) → one (cond x z false) ≤ one (cond y z false)
-one_cond true true z h = le_refl _
-one_cond true false z h = absurd (clash (h refl))
-one_cond false true z h = zero-le
-one_cond false false z h = le_refl _
+one_and : (x y z : Bool) → (x ≡ true → y ≡ true) → one (x && z) ≤ one (y && z)
+one_and true true z h = le_refl _
+one_and true false z h = absurd (cc (h refl))
+one_and false true z h = zero-le
+one_and false false z h = le_refl _
 
 more_slot : (G : Scope) (b u p : ℕ) → Shallow G b → one (shut_role (resolve G b u p)) ≤ one (shut_role (resolve G (b + 1) u p))
 more_slot [] b u p h = le_refl _
-more_slot (f ∷ G) b zero p h = let l : f.depth < b + 1 = omega (arith, h.0) in one_cond (ltb f.depth b) (ltb f.depth (b + 1)) (ltb p f.pattern) (λ _. lt-ltb f.depth (b + 1) l)
+more_slot (f ∷ G) b zero p h = let l : f.depth < b + 1 = omega (arith, h.0) in one_and (ltb f.depth b) (ltb f.depth (b + 1)) (ltb p f.pattern) (λ _. lt-ltb f.depth (b + 1) l)
 more_slot (f ∷ G) b (suc u) p h = more_slot G b u p h.1
 
 strained_more : (G : Scope) (b : ℕ) → Shallow G b → (i : Item) → strained G b i ≤ strained G (b + 1) i

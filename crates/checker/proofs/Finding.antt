@@ -5,7 +5,8 @@ use Rattle.std.proofs.lemmas.Bool.{cases_lt}
 use Rattle.checker.specs.declared.role.Role.{Role}
 use Rattle.checker.specs.declared.role.Role.TheVariants.{Other}
 use Rattle.checker.specs.declared.site.Site.{Site}
-use Rattle.checker.specs.Loops.{roles, site_lines, least_line, earlier, Found}
+use Rattle.checker.specs.Found.{roles, site_lines, least_line, Found}
+use Rattle.checker.specs.Firsts.{earlier}
 use Rattle.checker.specs.Faults.{Nowhere, Least}
 
 -- A site more at the front.

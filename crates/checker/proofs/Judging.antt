@@ -4,7 +4,7 @@ use Rattle.sheet.specs.declared.refusal.Rule.{Rule}
 use Rattle.sheet.specs.declared.refusal.Refusal.{Refusal}
 use Rattle.checker.specs.declared.site.Site.{Site}
 use Rattle.checker.specs.Roles.{unbound_role, shut_role}
-use Rattle.checker.specs.Loops.{roles, site_lines, least_line, Found, UnboundSite, ShutSite}
+use Rattle.checker.specs.Found.{roles, site_lines, least_line, Found, UnboundSite, ShutSite}
 use Rattle.checker.proofs.Finding.{least_found}
 
 pub unbound_found : (xs : List Site) → Found (UnboundSite (roles xs)) (site_lines xs) (least_line (λ x. unbound_role x.role) xs)

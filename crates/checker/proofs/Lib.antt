@@ -6,7 +6,7 @@ pub mod Finding
 pub mod Showing
 pub mod Faultless
 pub mod Tallies
-pub mod Tally
+pub mod Accepting
 pub mod Wires
 pub mod Uses
 pub mod Sited

@@ -1,14 +1,14 @@
 -- The sites show the faults of variables, and of what stands in a bang.
 use Rattle.std.proofs.Common.{◌≡◌, ℕ, zero, suc, ◌<◌, Bool, true, false, cond, [], ◌∷◌, get_or, sym, refl, ap, ◌∙◌, inl, inr, zero-le, arith, ltb-true, lt-ltb, le-leb, leb-true}
 use native.Mathlib.Nat.{sub-zero}
-use Rattle.std.proofs.lemmas.Bool.{cases_lt}
+use Rattle.std.proofs.lemmas.Bool.{cases_lt, and_parts}
 use Rattle.terms.specs.Term.{Term, var, wire, bit, gate, new, bang, app, tuple, abs, size}
 use Rattle.theory.specs.Acceptance.{Bound, pattern, arity}
 use Rattle.checker.specs.declared.role.Role.TheVariants.{Other}
 use Rattle.checker.specs.Faults.{Scope, patterns, NodeAt, Deeper, Unbound, unbound, Shut, shut_variable, shut_wire}
 use Rattle.checker.specs.Sites.{resolve, role_of, sites}
 use Rattle.checker.specs.Roles.{unbound_role, shut_role}
-use Rattle.checker.specs.Loops.{UnboundSite, ShutSite}
+use Rattle.checker.specs.Found.{UnboundSite, ShutSite}
 use Rattle.checker.proofs.Located.{at_range, at_site, Located, locate}
 use Rattle.checker.proofs.Finding.{Shown}
 
@@ -64,13 +64,9 @@ shut_resolve [] c u p h k = absurd k
 shut_resolve (f ∷ H) c zero p h k = rw (lt-ltb f.depth c k) (lt-ltb p f.pattern h)
 shut_resolve (f ∷ H) c (suc u) p h k = shut_resolve H c u p h k
 
-cond_both : (x y : Bool) → cond x y false ≡ true → (x ≡ true) × (y ≡ true)
-cond_both true y e = (refl, e)
-cond_both false y e = absurd cc
-
 resolve_shut : (H : Scope) (c u p : ℕ) → shut_role (resolve H c u p) ≡ true → (p < pattern (patterns H) u) × Deeper H u c
 resolve_shut [] c u p e = absurd cc
-resolve_shut (f ∷ H) c zero p e = let r = cond_both _ _ e in (ltb-true p f.pattern r.1, ltb-true f.depth c r.0)
+resolve_shut (f ∷ H) c zero p e = let r = and_parts _ _ e in (ltb-true p f.pattern r.1, ltb-true f.depth c r.0)
 resolve_shut (f ∷ H) c (suc u) p e = resolve_shut H c u p e
 
 pub shut_of : (t : Term) (n : ℕ) (H : Scope) (c : ℕ) (s : Term) → NodeAt t n H c s → shut_role (role_of H c n s) ≡ true → Shut t n

@@ -3,8 +3,8 @@ use Rattle.std.proofs.Common.{◌≡◌, ℕ, ◌<◌, List, [], ◌∷◌, zero
 use Rattle.std.proofs.lemmas.List.{get_or-map}
 use Rattle.checker.specs.declared.role.Role.TheVariants.{Other}
 use Rattle.checker.specs.Roles.{Ranged}
+use Rattle.checker.specs.Found.{roles, site_lines}
 use Rattle.checker.specs.declared.site.Site.{Site}
-use Rattle.checker.specs.Loops.{roles, site_lines}
 
 -- The site x stands at n.
 pub role_is : (xs : List Site) (n : ℕ) (x : Site) → n < length xs → x ≡ get_or xs n x → get_or (roles xs) n Other ≡ x.role

@@ -16,7 +16,7 @@ use Rattle.checker.specs.declared.role.Role.TheVariants.{Other, Opening}
 use Rattle.checker.specs.Sites.{Forest, resolve, role_at, sites, sitess, Walked}
 use Rattle.checker.specs.Faults.{Scope, frame}
 use Rattle.checker.specs.Roles.{Ranged}
-use Rattle.checker.specs.Loops.{roles, site_lines}
+use Rattle.checker.specs.Found.{roles, site_lines}
 use Rattle.sheet.specs.Located.{nodes_in, lines_in}
 use Rattle.sheet.specs.declared.located.LocatedNode.{LocatedNode}
 use Rattle.terms.specs.Shape.{Shaped, Shapeds}

@@ -3,18 +3,18 @@ use Rattle.std.proofs.Common.{ℕ, ◌<◌, List, [], arith}
 use Rattle.terms.specs.Term.{Term, wire, size}
 use Rattle.checker.specs.Faults.{Repeated, repeated}
 use Rattle.checker.specs.Sites.{sites}
-use Rattle.checker.specs.Loops.{RepeatSite}
+use Rattle.checker.specs.Firsts.{RepeatSite}
 use Rattle.checker.proofs.Finding.{Shown}
 use Rattle.checker.proofs.Walks.{length-sites}
 use Rattle.checker.proofs.Showing.{within-size}
-use Rattle.checker.proofs.Tally.{wired, wired_twice, wire_site}
+use Rattle.checker.proofs.Accepting.{wired, wired_twice, wire_site}
 
 repeat_low : (t : Term) (lines : List ℕ) (n : ℕ) → Repeated t lines n → n < size t
 repeat_low t lines n (repeated a b l) = within-size t n _ _ _ a
 
 repeat_to : (t : Term) (lines : List ℕ) (n : ℕ) → Repeated t lines n → RepeatSite (sites [] 0 0 t) lines n
 repeat_to t lines n (repeated {H = H} {K = K} {c = c} {d = d} {m = m} {w = w} a b l) =
-    record { wire = w; other = m; low = omega (arith, within-size t m K d (wire w) b, length-sites [] 0 0 t); here = omega (arith, wire_site t n w H c a); there = omega (arith, wire_site t m w K d b); less = l }
+    record { wire = w; other = m; low = omega (arith, within-size t m K d (wire w) b, length-sites [] 0 0 t); here = wire_site t n w H c a; there = wire_site t m w K d b; less = l }
 
 repeat_from : (t : Term) (lines : List ℕ) (n : ℕ) → n < size t → RepeatSite (sites [] 0 0 t) lines n → Repeated t lines n
 repeat_from t lines n lo r =

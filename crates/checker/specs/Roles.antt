@@ -1,5 +1,5 @@
 -- What the role of a node says by itself.
-use Rattle.std.specs.Prelude.{◌<◌, ◌≤◌, Bool, true, false, cond, nat_le, nat_lt}
+use Rattle.std.specs.Prelude.{ℕ, ◌<◌, ◌≤◌, Bool, true, false, ◌&&◌, ◌==◌, nat_le, nat_lt}
 use Rattle.std.specs.Coded.{×_prop, Unit-prop, le_prop}
 use Rattle.theory.specs.Acceptance.{arity}
 use Rattle.checker.specs.declared.role.Role.{Role}
@@ -31,6 +31,22 @@ unbound_role (Opening m k) = false
 abbrev pub shut_role : Role → Bool
 shut_role Other = false
 shut_role Free = false
-shut_role (Use m k p x) = cond x (nat_lt p k) false
+shut_role (Use m k p x) = x && nat_lt p k
 shut_role (Lead w x) = x
 shut_role (Opening m k) = false
+
+-- Whether it is the wire k.
+abbrev pub is_lead : ℕ → Role → Bool
+is_lead k Other = false
+is_lead k Free = false
+is_lead k (Use m j p x) = false
+is_lead k (Lead w x) = k == w
+is_lead k (Opening m j) = false
+
+-- Whether it is the variable p of the binder m.
+abbrev pub is_use : ℕ → ℕ → Role → Bool
+is_use m p Other = false
+is_use m p Free = false
+is_use m p (Use n k q x) = m == n && p == q
+is_use m p (Lead w x) = false
+is_use m p (Opening n k) = false

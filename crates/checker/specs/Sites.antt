@@ -12,7 +12,7 @@ use Rattle.checker.specs.declared.role.Role.{Role}
 use Rattle.checker.specs.declared.role.Role.TheVariants.{Other, Free, Use, Lead, Opening}
 use Rattle.checker.specs.declared.site.Site.{Site}
 use Rattle.checker.specs.Faults.{Scope, frame}
-use Rattle.checker.specs.Loops.{roles}
+use Rattle.checker.specs.Found.{roles}
 
 -- The list begins with the nodes of the terms ts.
 pub record Forest (xs : List Node) (ts : Terms) : Type 0 where

@@ -1,6 +1,7 @@
 //! How often each binder's variables are used.
 ghost use Rattle.std.specs.Prelude.{◌≡◌, ◌≤◌, length, map, vec_len};
-ghost use Rattle.checker.specs.Loops.{roles, Counted, Countable, cleared, counted_in, misused_role};
+ghost use Rattle.checker.specs.Found.{roles};
+ghost use Rattle.checker.specs.Counts.{Counted, Countable, cleared, counted_in, misused_role};
 
 use crate::role::Role;
 use crate::site::Site;

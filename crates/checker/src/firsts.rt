@@ -1,6 +1,7 @@
 //! The first line of each wire.
 ghost use Rattle.std.specs.Prelude.{◌≡◌, ◌≤◌, IfOk, vec_len};
-ghost use Rattle.checker.specs.Loops.{roles, site_lines, Found, RepeatSite, Blank, noted, repeated_role, wiped};
+ghost use Rattle.checker.specs.Found.{roles, site_lines, Found};
+ghost use Rattle.checker.specs.Firsts.{RepeatSite, Blank, noted, repeated_role, wiped};
 
 use crate::role::Role;
 use crate::rules::first_line;

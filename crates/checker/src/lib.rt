@@ -3,7 +3,8 @@
 
 ghost use Rattle.std.specs.Prelude.{◌≡◌, IfOk, MatchOption};
 ghost use Rattle.sheet.specs.Reading.{HoldsZero};
-ghost use Rattle.checker.specs.Loops.{roles, site_lines, Judged};
+ghost use Rattle.checker.specs.Found.{roles, site_lines};
+ghost use Rattle.checker.specs.Judged.{Judged};
 ghost use Rattle.checker.specs.Verdict.{Decided, Checked, VerdictIsDetermined};
 
 use accepted::AcceptedProgram;

@@ -4,7 +4,7 @@ ghost use Rattle.std.specs.Fn.{FnReturnsAt};
 ghost use Rattle.theory.specs.Acceptance.{arity};
 ghost use Rattle.checker.specs.declared.site.Site.{Site};
 ghost use Rattle.checker.specs.Roles.{unbound_role, shut_role};
-ghost use Rattle.checker.specs.Loops.{least_line};
+ghost use Rattle.checker.specs.Found.{least_line};
 
 use crate::role::Role;
 use crate::site::Site;

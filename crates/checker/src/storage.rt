@@ -1,6 +1,6 @@
 //! The memory that checking works in.
 ghost use Rattle.std.specs.Prelude.{◌≡◌};
-ghost use Rattle.checker.specs.Loops.{Blank};
+ghost use Rattle.checker.specs.Firsts.{Blank};
 
 use crate::counts::UseCounts;
 use crate::firsts::FirstLines;

@@ -5,7 +5,7 @@ ghost use Rattle.terms.specs.Parse.{term, HoldsTerm};
 ghost use Rattle.terms.specs.Shape.{shaped};
 ghost use Rattle.sheet.specs.Located.{nodes_in, lines_in};
 ghost use Rattle.checker.specs.Sites.{Forest, Stand, resolve, role_at, sites, sitess, Walked};
-ghost use Rattle.checker.specs.Loops.{roles, site_lines};
+ghost use Rattle.checker.specs.Found.{roles, site_lines};
 
 use crate::role::{Frame, Role};
 use crate::site::Site;

@@ -1,6 +1,7 @@
 use Rattle.std.proofs.Common.{◌≡◌, ℕ, ◌+◌, ◌≤◌, List, [], length, take, vec_items, sym, subst, arith}
 use Rattle.std.proofs.lemmas.List.{length-map}
-use Rattle.checker.specs.Loops.{roles, Counts}
+use Rattle.checker.specs.Found.{roles}
+use Rattle.checker.specs.Counts.{Counts}
 use Rattle.checker.proofs.Sited.{role_is}
 use Rattle.checker.proofs.Counting.{cleared_more, counted_more, countable}
 use Rattle.checker.proofs.counts.UseCounts.count.Goals as goal
@@ -11,7 +12,7 @@ loop-site-preserved c =
     let e = role_is c.args.sites.now c.loop-site.site-index c.site-item.result c.loop-site-test.true c.site-item.is in
     let room : 4096 ≤ length (vec_items c.loop-site.self.rows) = omega (arith, c.loop-site.self.room, c.loop-site.self.rows.ok.0) in
     subst (λ (C : List (List ℕ)). Counts [] xs C (c.loop-site.site-index + 1)) (sym c.clear.ensures)
-    (cleared_more xs (vec_items c.loop-site.self.rows) c.loop-site.site-index c.site-item.result.role e room c.site-item.result.ranged c.loop-site.invariant)
+    (cleared_more xs (vec_items c.loop-site.self.rows) c.loop-site.site-index c.loop-site.invariant c.site-item.result.role e room c.site-item.result.ranged)
 
 pub note-requires : goal.note-requires
 note-requires c =

@@ -1,5 +1,6 @@
 use Rattle.std.proofs.Common.{[], length, take, vec_items}
-use Rattle.checker.specs.Loops.{roles, Counts}
+use Rattle.checker.specs.Found.{roles}
+use Rattle.checker.specs.Counts.{Counts}
 use Rattle.checker.proofs.counts.UseCounts.count.Given as goal
 
 abbrev pub invariant-loop-site : goal.invariant-loop-site

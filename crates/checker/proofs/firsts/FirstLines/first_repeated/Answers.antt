@@ -1,8 +1,9 @@
 use Rattle.std.proofs.Common.{◌≡◌, ℕ, ◌+◌, ◌≤◌, List, Option, length, vec_items, sym, subst, rules, arith}
 use Rattle.checker.specs.declared.site.Site.{Site}
-use Rattle.checker.specs.Loops.{roles, site_lines, Firsts, Wiped, repeated_role}
+use Rattle.checker.specs.Found.{roles, site_lines}
+use Rattle.checker.specs.Firsts.{repeated_role}
 use Rattle.checker.proofs.Sited.{role_is, line_is}
-use Rattle.checker.proofs.Noting.{blank_firsts, noted_more, repeats_found, wiped_more}
+use Rattle.checker.proofs.Noting.{Firsts, Wiped, blank_firsts, noted_more, repeats_found, wiped_more}
 use Rattle.checker.proofs.firsts.FirstLines.first_repeated.Goals as goal
 
 pub loop-site-init : goal.loop-site-init

@@ -1,5 +1,6 @@
 use Rattle.std.proofs.Common.{vec_items}
-use Rattle.checker.specs.Loops.{roles, site_lines, Firsts, Wiped}
+use Rattle.checker.specs.Found.{roles, site_lines}
+use Rattle.checker.proofs.Noting.{Firsts, Wiped}
 use Rattle.checker.proofs.firsts.FirstLines.first_repeated.Given as goal
 
 abbrev pub invariant-loop-site : goal.invariant-loop-site

@@ -1,7 +1,9 @@
 use Rattle.std.proofs.Common.{rules}
 use Rattle.sheet.specs.declared.refusal.Rule.TheVariants.{Unbound, Misused, Shut, Repeated}
 use Rattle.checker.specs.Roles.{unbound_role, shut_role}
-use Rattle.checker.specs.Loops.{roles, site_lines, Found, UnboundSite, MisuseSite, ShutSite, misused_role, Judged}
+use Rattle.checker.specs.Found.{roles, site_lines, Found, UnboundSite, ShutSite}
+use Rattle.checker.specs.Counts.{MisuseSite, misused_role}
+use Rattle.checker.specs.Judged.{Judged}
 use Rattle.checker.proofs.Counting.{misused_found}
 use Rattle.checker.proofs.Judging.{unbound_found, shut_found, kept, refused, answered}
 use Rattle.checker.proofs.storage.CheckStorage.judge.Goals as goal
