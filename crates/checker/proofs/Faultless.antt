@@ -1,6 +1,5 @@
 -- No fault at any node: the properties of an accepted term.
-use Rattle.std.proofs.Common.{◌≡◌, ℕ, zero, suc, ◌+◌, ◌<◌, ◌≤◌, Bool, true, false, cond, ltb, [], ◌∷◌, sym, refl, ap, ◌∙◌, inl, inr, zero-le, le_refl, arith, le-ltb, lt-ltb}
-use borrow.Author.Tests.{clash}
+use Rattle.std.proofs.Common.{◌≡◌, ℕ, zero, suc, ◌+◌, ◌<◌, ◌≤◌, Bool, true, false, ◌&&◌, ltb, [], ◌∷◌, sym, refl, ap, ◌∙◌, inl, inr, zero-le, le_refl, arith, le-ltb, lt-ltb}
 use Rattle.std.proofs.lemmas.Bool.{cases_Bool, cases_eq, false_from_ne_true}
 use Rattle.terms.specs.Term.{Term, var, wire, bit, gate, new, bang, app, tuple, abs, Terms, none, part, size}
 use Rattle.theory.specs.Acceptance.{Item, slot, lead, below, inner, weigh, weighs, one, uses, linear, Patterns, Bound, bound, pattern, Bounded, Boundeds, Once, Onces, Clear, Clears}
@@ -8,13 +7,13 @@ use Rattle.theory.proofs.Weigh.{below_ltb, weigh_same, weigh-zero, weigh_le}
 use Rattle.theory.proofs.Equivalence.{one_le}
 use Rattle.theory.proofs.Tested.{decides_bound}
 use Rattle.checker.specs.Faults.{Scope, patterns, frame, At, Ats, here, in_new, in_bang, in_fun, in_arg, in_tuple, in_abs, in_part, in_rest, Unbound, unbound, Misused, misused, Shut, shut_variable, shut_wire, Nowhere}
-use Rattle.checker.specs.Sites.{resolve, site_of}
-use Rattle.checker.specs.Loops.{shut_site}
+use Rattle.checker.specs.Sites.{resolve, role_of}
+use Rattle.checker.specs.Roles.{shut_role}
 use Rattle.checker.proofs.Showing.{shut_of, shut_resolve}
 
 -- Variables.
 bound_stable : (G : Patterns) (u p : ℕ) → ((Bound G u p → ⊥) → ⊥) → Bound G u p
-bound_stable G u p h = elim (cases_Bool (bound G u p)) [ inl e ↦ (decides_bound G u p).0 e | inr e ↦ absurd (h (λ k. clash (sym e ∙ (decides_bound G u p).1 k))) ]
+bound_stable G u p h = elim (cases_Bool (bound G u p)) [ inl e ↦ (decides_bound G u p).0 e | inr e ↦ absurd (h (λ k. cc (e, (decides_bound G u p).1 k))) ]
 
 mutual
   bounded : (G : Scope) (b m : ℕ) (t : Term) → ((n : ℕ) (H : Scope) (c u p : ℕ) → At G b m t n H c (var u p) → Bound (patterns H) u p) → Bounded (patterns G) t
@@ -94,7 +93,7 @@ once_none t o n (misused {p = p} a lt k) = k ((at_once a o).1 p lt)
 
 -- Bangs. What breaks the rule at a place within the binders G and b bangs.
 abbrev strained : Scope → ℕ → Item → ℕ
-strained G b (slot u p) = one (shut_site (resolve G b u p))
+strained G b (slot u p) = one (shut_role (resolve G b u p))
 strained G b (lead k) = one (ltb 0 b)
 
 abbrev Shallow : Scope → ℕ → Type 0
@@ -105,7 +104,7 @@ shallow_more : (G : Scope) (b : ℕ) → Shallow G b → Shallow G (b + 1)
 shallow_more [] b h = tt
 shallow_more (f ∷ G) b h = (omega (arith, h.0), shallow_more G b h.1)
 
-linear-slot : (G : Scope) (b u p : ℕ) → Shallow G b → one (shut_site (resolve G (b + 1) u p)) ≡ one (below p (pattern (patterns G) u))
+linear-slot : (G : Scope) (b u p : ℕ) → Shallow G b → one (shut_role (resolve G (b + 1) u p)) ≡ one (below p (pattern (patterns G) u))
 linear-slot [] b u p h = refl
 linear-slot (f ∷ G) b zero p h = let l : f.depth < b + 1 = omega (arith, h.0) in rw (lt-ltb f.depth (b + 1) l, below_ltb p f.pattern) refl
 linear-slot (f ∷ G) b (suc u) p h = linear-slot G b u p h.1
@@ -114,15 +113,15 @@ strained-linear : (G : Scope) (b : ℕ) → Shallow G b → (i : Item) → strai
 strained-linear G b h (slot u p) = linear-slot G b u p h
 strained-linear G b h (lead k) = let l : 0 < b + 1 = omega arith in rw (lt-ltb 0 (b + 1) l) refl
 
-one_cond : (x y z : Bool) → (x ≡ true → y ≡ true) → one (cond x z false) ≤ one (cond y z false)
-one_cond true true z h = le_refl _
-one_cond true false z h = absurd (clash (h refl))
-one_cond false true z h = zero-le
-one_cond false false z h = le_refl _
+one_and : (x y z : Bool) → (x ≡ true → y ≡ true) → one (x && z) ≤ one (y && z)
+one_and true true z h = le_refl _
+one_and true false z h = absurd (cc (h refl))
+one_and false true z h = zero-le
+one_and false false z h = le_refl _
 
-more_slot : (G : Scope) (b u p : ℕ) → Shallow G b → one (shut_site (resolve G b u p)) ≤ one (shut_site (resolve G (b + 1) u p))
+more_slot : (G : Scope) (b u p : ℕ) → Shallow G b → one (shut_role (resolve G b u p)) ≤ one (shut_role (resolve G (b + 1) u p))
 more_slot [] b u p h = le_refl _
-more_slot (f ∷ G) b zero p h = let l : f.depth < b + 1 = omega (arith, h.0) in one_cond (ltb f.depth b) (ltb f.depth (b + 1)) (ltb p f.pattern) (λ _. lt-ltb f.depth (b + 1) l)
+more_slot (f ∷ G) b zero p h = let l : f.depth < b + 1 = omega (arith, h.0) in one_and (ltb f.depth b) (ltb f.depth (b + 1)) (ltb p f.pattern) (λ _. lt-ltb f.depth (b + 1) l)
 more_slot (f ∷ G) b (suc u) p h = more_slot G b u p h.1
 
 strained_more : (G : Scope) (b : ℕ) → Shallow G b → (i : Item) → strained G b i ≤ strained G (b + 1) i
@@ -138,7 +137,7 @@ one_false : (x : Bool) → x ≡ false → one x ≡ 0
 one_false x e = rw e refl
 
 mutual
-  clear : (G : Scope) (b m : ℕ) (t : Term) → Shallow G b → ((n : ℕ) (H : Scope) (c : ℕ) (s : Term) → At G b m t n H c s → shut_site (site_of H c s) ≡ false) → Clear (patterns G) t × (weigh (strained G b) t ≡ 0)
+  clear : (G : Scope) (b m : ℕ) (t : Term) → Shallow G b → ((n : ℕ) (H : Scope) (c : ℕ) (s : Term) → At G b m t n H c s → shut_role (role_of H c n s) ≡ false) → Clear (patterns G) t × (weigh (strained G b) t ≡ 0)
   clear G b m (var u p) d h = (tt, one_false _ (h m G b (var u p) here))
   clear G b m (wire w) d h = (tt, one_false _ (h m G b (wire w) here))
   clear G b m (bit x) d h = (tt, refl)
@@ -156,7 +155,7 @@ mutual
       let r = clear (frame m k b ∷ G) b (m + 1) t (le_refl _, d) (λ n H c s a. h n H c s (in_abs a)) in
       (r.0, sym (weigh_same _ _ t (strained-inner G b m k)) ∙ r.1)
 
-  clears : (G : Scope) (b m : ℕ) (ts : Terms) → Shallow G b → ((n : ℕ) (H : Scope) (c : ℕ) (s : Term) → Ats G b m ts n H c s → shut_site (site_of H c s) ≡ false) → Clears (patterns G) ts × (weighs (strained G b) ts ≡ 0)
+  clears : (G : Scope) (b m : ℕ) (ts : Terms) → Shallow G b → ((n : ℕ) (H : Scope) (c : ℕ) (s : Term) → Ats G b m ts n H c s → shut_role (role_of H c n s) ≡ false) → Clears (patterns G) ts × (weighs (strained G b) ts ≡ 0)
   clears G b m none d h = (tt, refl)
   clears G b m (part t ts) d h =
       let r = clear G b m t d (λ n H c s a. h n H c s (in_part a)) in

@@ -1,28 +1,66 @@
 -- The smallest line that breaks a rule.
-use Rattle.std.proofs.Common.{◌≡◌, ℕ, ◌+◌, ◌<◌, Bool, true, false, cond, ltb, ◌⊎◌, List, get_or, Some, None, Option, refl, ap, subst, inl, inr, arith, ltb-false, ltb-true}
+use Rattle.std.proofs.Common.{◌≡◌, ℕ, zero, suc, ◌<◌, ◌≤◌, min, Bool, true, false, cond, List, [], ◌∷◌, filter, length, get_or, Some, None, Option, sym, refl, ap, ◌∙◌, subst, inl, inr, arith, le_refl}
+use Rattle.std.specs.List.{fold, reduce}
 use Rattle.std.proofs.lemmas.Bool.{cases_lt}
-use Rattle.checker.specs.Loops.{Found, sooner}
+use Rattle.checker.specs.declared.role.Role.{Role}
+use Rattle.checker.specs.declared.role.Role.TheVariants.{Other}
+use Rattle.checker.specs.declared.site.Site.{Site}
+use Rattle.checker.specs.Found.{roles, site_lines, least_line, Found}
+use Rattle.checker.specs.Firsts.{earlier}
 use Rattle.checker.specs.Faults.{Nowhere, Least}
 
-pub last_or : (n k : ℕ) → n < k + 1 → (n < k) ⊎ (n ≡ k)
-last_or n k h = elim (cases_lt n k) [ inl g ↦ inl g | inr g ↦ inr (omega arith) ]
-
--- A rule that a test tells at k.
-found_no : (P : ℕ → Type 0) (lines : List ℕ) (k : ℕ) (best : Option ℕ) → Found P lines k best → (P k → ⊥) → Found P lines (k + 1) best
-found_no P lines k None f h = λ n lo q. elim (last_or n k lo) [ inl g ↦ f n g q | inr e ↦ h (subst P e q) ]
-found_no P lines k (Some l) f h = record { node = f.node; low = omega (arith, f.low); breaks = f.breaks; line = f.line; first = λ n lo q. elim (last_or n k lo) [ inl g ↦ f.first n g q | inr e ↦ absurd (h (subst P e q)) ] }
-
-found_yes : (P : ℕ → Type 0) (lines : List ℕ) (k : ℕ) (best : Option ℕ) → Found P lines k best → P k → Found P lines (k + 1) (sooner best true (get_or lines k 0))
-found_yes P lines k None f h = record { node = k; low = omega arith; breaks = h; line = refl; first = λ n lo q. elim (last_or n k lo) [ inl g ↦ absurd (f n g q) | inr e ↦ omega (arith, ap (λ x. get_or lines x 0) e) ] }
-found_yes P lines k (Some l) f h = go (ltb (get_or lines k 0) l) refl
+-- A site more at the front.
+behind : (P : ℕ → Type 0) (l : ℕ) (lines : List ℕ) (r : Option ℕ) → (P 0 → ⊥) → Found (λ n. P (suc n)) lines r → Found P (l ∷ lines) r
+behind P l lines None h f = none
   where
-    go : (b : Bool) → ltb (get_or lines k 0) l ≡ b → Found P lines (k + 1) (cond b (Some (get_or lines k 0)) (Some l))
-    go true e = record { node = k; low = omega arith; breaks = h; line = refl; first = λ n lo q. elim (last_or n k lo) [ inl g ↦ omega (arith, f.first n g q, ltb-true (get_or lines k 0) l e) | inr z ↦ omega (arith, ap (λ x. get_or lines x 0) z) ] }
-    go false e = record { node = f.node; low = omega (arith, f.low); breaks = f.breaks; line = f.line; first = λ n lo q. elim (last_or n k lo) [ inl g ↦ f.first n g q | inr z ↦ omega (arith, ap (λ x. get_or lines x 0) z, ltb-false (get_or lines k 0) l e) ] }
+    none : (n : ℕ) → n < length (l ∷ lines) → P n → ⊥
+    none zero lo p = h p
+    none (suc n) lo p = f n (omega arith) p
+behind P l lines (Some k) h f = record { node = suc f.node; low = omega (arith, f.low); breaks = f.breaks; line = f.line; first = first }
+  where
+    first : (n : ℕ) → n < length (l ∷ lines) → P n → k ≤ get_or (l ∷ lines) n 0
+    first zero lo p = absurd (h p)
+    first (suc n) lo p = f.first n (omega arith) p
 
-pub found_more : (P : ℕ → Type 0) (lines : List ℕ) (k : ℕ) (best : Option ℕ) (b : Bool) → Found P lines k best → (b ≡ true → P k) → (P k → b ≡ true) → Found P lines (k + 1) (sooner best b (get_or lines k 0))
-found_more P lines k best true f h g = found_yes P lines k best f (h refl)
-found_more P lines k best false f h g = found_no P lines k best f (λ q. let e = g q in let z : ◌≡◌ {A = ℕ} 0 1 = cc in omega arith)
+before : (P : ℕ → Type 0) (l : ℕ) (lines : List ℕ) (r : Option ℕ) → P 0 → Found (λ n. P (suc n)) lines r → Found P (l ∷ lines) (Some (earlier r l))
+before P l lines None h f = record { node = 0; low = omega arith; breaks = h; line = refl; first = first }
+  where
+    first : (n : ℕ) → n < length (l ∷ lines) → P n → l ≤ get_or (l ∷ lines) n 0
+    first zero lo p = le_refl l
+    first (suc n) lo p = absurd (f n (omega arith) p)
+before P l lines (Some k) h f = elim (cases_lt k l) [
+  | inl g ↦ record { node = suc f.node; low = omega (arith, f.low); breaks = f.breaks; line = omega (arith, f.line); first = first }
+  | inr g ↦ record { node = 0; low = omega arith; breaks = h; line = omega arith; first = first }
+]
+  where
+    first : (n : ℕ) → n < length (l ∷ lines) → P n → min k l ≤ get_or (l ∷ lines) n 0
+    first zero lo p = omega arith
+    first (suc n) lo p = omega (arith, f.first n (omega arith) p)
+
+fold-min : (k l : ℕ) (ms : List ℕ) → fold min (min l k) ms ≡ min (fold min k ms) l
+fold-min k l [] = omega arith
+fold-min k l (m ∷ ms) = let e : min (min l k) m ≡ min l (min k m) = omega arith in rw e (fold-min (min k m) l ms)
+
+reduce-cons : (l : ℕ) (ms : List ℕ) → reduce min (l ∷ ms) ≡ Some (earlier (reduce min ms) l)
+reduce-cons l [] = refl
+reduce-cons l (k ∷ ms) = ap Some (fold-min k l ms)
+
+-- The least line of the sites that pass is the first at which the test breaks the rule.
+abbrev pub Passes : (Role → ℕ → Bool) → List Site → ℕ → Type 0
+Passes t xs n = t (get_or (roles xs) n Other) (get_or (site_lines xs) n 0) ≡ true
+
+found_in : (t : Role → ℕ → Bool) (x : Site) (xs kept : List Site) (b : Bool) → t x.role x.line ≡ b → Found (Passes t xs) (site_lines xs) (reduce min (site_lines kept)) → Found (Passes t (x ∷ xs)) (site_lines (x ∷ xs)) (reduce min (site_lines (cond b (x ∷ kept) kept)))
+found_in t x xs kept true e f = subst (Found (Passes t (x ∷ xs)) (site_lines (x ∷ xs))) (sym (reduce-cons x.line (site_lines kept))) (before (Passes t (x ∷ xs)) x.line (site_lines xs) _ e f)
+found_in t x xs kept false e f = behind (Passes t (x ∷ xs)) x.line (site_lines xs) _ (λ p. let z : false ≡ true = sym e ∙ p in cc) f
+
+pub least_found : (t : Role → ℕ → Bool) (xs : List Site) → Found (Passes t xs) (site_lines xs) (least_line (λ x. t x.role x.line) xs)
+least_found t [] = λ n lo p. absurd (omega arith)
+least_found t (x ∷ xs) = found_in t x xs (filter (λ y. t y.role y.line) xs) (t x.role x.line) refl (least_found t xs)
+
+-- The same rule, said in another way.
+pub found_same : (P Q : ℕ → Type 0) (lines : List ℕ) (r : Option ℕ) → ((n : ℕ) → n < length lines → P n → Q n) → ((n : ℕ) → n < length lines → Q n → P n) → Found P lines r → Found Q lines r
+found_same P Q lines None to from f = λ n lo q. f n lo (from n lo q)
+found_same P Q lines (Some l) to from f = record { node = f.node; low = f.low; breaks = to f.node f.low f.breaks; line = f.line; first = λ n lo q. f.first n lo (from n lo q) }
 
 -- A fault of the term that the sites show.
 pub record Shown (P Q : ℕ → Type 0) (k : ℕ) : Type 0 where
@@ -30,8 +68,8 @@ pub record Shown (P Q : ℕ → Type 0) (k : ℕ) : Type 0 where
   pub to : (n : ℕ) → P n → Q n
   pub from : (n : ℕ) → n < k → Q n → P n
 
-pub nowhere : (P Q : ℕ → Type 0) (lines : List ℕ) (k : ℕ) → Shown P Q k → Found Q lines k None → Nowhere P
-nowhere P Q lines k s f = λ n p. f n (s.low n p) (s.to n p)
+pub nowhere : (P Q : ℕ → Type 0) (lines : List ℕ) → Shown P Q (length lines) → Found Q lines None → Nowhere P
+nowhere P Q lines s f = λ n p. f n (s.low n p) (s.to n p)
 
-pub least : (P Q : ℕ → Type 0) (lines : List ℕ) (k l : ℕ) → Shown P Q k → Found Q lines k (Some l) → Least P lines l
-least P Q lines k l s f = record { node = f.node; breaks = s.from f.node f.low f.breaks; line = f.line; first = λ n p. f.first n (s.low n p) (s.to n p) }
+pub least : (P Q : ℕ → Type 0) (lines : List ℕ) (l : ℕ) → Shown P Q (length lines) → Found Q lines (Some l) → Least P lines l
+least P Q lines l s f = record { node = f.node; breaks = s.from f.node f.low f.breaks; line = f.line; first = λ n p. f.first n (s.low n p) (s.to n p) }

@@ -3,10 +3,10 @@ use Rattle.std.proofs.Common.{◌≡◌, ℕ, suc, ◌+◌, ◌-◌, ◌<◌, �
 use Rattle.std.proofs.lemmas.Bool.{cases_lt}
 use Rattle.std.proofs.lemmas.List.{get_or_append_left, get_or-append_right}
 use Rattle.terms.specs.Term.{Term, var, wire, bit, gate, new, bang, app, tuple, abs, Terms, none, part, size, sizes}
-use Rattle.checker.specs.declared.site.Site.{Site}
-use Rattle.checker.specs.declared.site.Site.TheVariants.{Other}
+use Rattle.checker.specs.declared.role.Role.{Role}
+use Rattle.checker.specs.declared.role.Role.TheVariants.{Other}
 use Rattle.checker.specs.Faults.{Scope, frame, At, Ats, here, in_new, in_bang, in_fun, in_arg, in_tuple, in_abs, in_part, in_rest}
-use Rattle.checker.specs.Sites.{site_of, sites, sitess}
+use Rattle.checker.specs.Sites.{role_of, sites, sitess}
 use Rattle.checker.proofs.Walks.{length-sites}
 use Rattle.terms.proofs.Forests.{size-parts}
 
@@ -24,7 +24,7 @@ mutual
   ats_range (in_part a) = let r = at_range a in (omega arith, omega arith)
   ats_range (in_rest a) = let r = ats_range a in (omega arith, omega arith)
 
-head : (G : Scope) (b m : ℕ) (t : Term) (d : Site) → get_or (sites G b m t) 0 d ≡ site_of G b t
+head : (G : Scope) (b m : ℕ) (t : Term) (d : Role) → get_or (sites G b m t) 0 d ≡ role_of G b m t
 head G b m (var u p) d = refl
 head G b m (wire w) d = refl
 head G b m (bit c) d = refl
@@ -35,19 +35,19 @@ head G b m (app f a) d = refl
 head G b m (tuple ts) d = refl
 head G b m (abs k t) d = refl
 
-tail : (x : Site) (xs : List Site) (m n : ℕ) (d : Site) → m + 1 ≤ n → get_or (x ∷ xs) (n - m) d ≡ get_or xs (n - (m + 1)) d
+tail : (x : Role) (xs : List Role) (m n : ℕ) (d : Role) → m + 1 ≤ n → get_or (x ∷ xs) (n - m) d ≡ get_or xs (n - (m + 1)) d
 tail x xs m n d h = let e : n - m ≡ suc (n - (m + 1)) = omega arith in rw e refl
 
-left_of : (xs ys : List Site) (m n k : ℕ) (d : Site) → length xs ≡ k → m ≤ n → n < m + k → get_or (xs ++ ys) (n - m) d ≡ get_or xs (n - m) d
+left_of : (xs ys : List Role) (m n k : ℕ) (d : Role) → length xs ≡ k → m ≤ n → n < m + k → get_or (xs ++ ys) (n - m) d ≡ get_or xs (n - m) d
 left_of xs ys m n k d e lo hi = get_or_append_left xs ys d (n - m) (omega arith)
 
-right_of : (xs ys : List Site) (m n k : ℕ) (d : Site) → length xs ≡ k → m + k ≤ n → get_or (xs ++ ys) (n - m) d ≡ get_or ys (n - (m + k)) d
+right_of : (xs ys : List Role) (m n k : ℕ) (d : Role) → length xs ≡ k → m + k ≤ n → get_or (xs ++ ys) (n - m) d ≡ get_or ys (n - (m + k)) d
 right_of xs ys m n k d e lo =
     let z : n - m - k ≡ n - (m + k) = omega arith in
     get_or-append_right xs ys k (n - m) d e (omega arith) ∙ rw z refl
 
 mutual
-  pub at_site : {G : Scope} {b m : ℕ} {t : Term} {n : ℕ} {H : Scope} {c : ℕ} {s : Term} (d : Site) → At G b m t n H c s → get_or (sites G b m t) (n - m) d ≡ site_of H c s
+  pub at_site : {G : Scope} {b m : ℕ} {t : Term} {n : ℕ} {H : Scope} {c : ℕ} {s : Term} (d : Role) → At G b m t n H c s → get_or (sites G b m t) (n - m) d ≡ role_of H c n s
   at_site d (here {G = G} {b = b} {m = m} {t = t}) = let e : m - m ≡ 0 = omega arith in rw e (head G b m t d)
   at_site d (in_new a) = tail _ _ _ _ d (at_range a).0 ∙ at_site d a
   at_site d (in_bang a) = tail _ _ _ _ d (at_range a).0 ∙ at_site d a
@@ -61,7 +61,7 @@ mutual
   at_site d (in_tuple a) = tail _ _ _ _ d (ats_range a).0 ∙ ats_site d a
   at_site d (in_abs a) = tail _ _ _ _ d (at_range a).0 ∙ at_site d a
 
-  pub ats_site : {G : Scope} {b m : ℕ} {ts : Terms} {n : ℕ} {H : Scope} {c : ℕ} {s : Term} (d : Site) → Ats G b m ts n H c s → get_or (sitess G b m ts) (n - m) d ≡ site_of H c s
+  pub ats_site : {G : Scope} {b m : ℕ} {ts : Terms} {n : ℕ} {H : Scope} {c : ℕ} {s : Term} (d : Role) → Ats G b m ts n H c s → get_or (sitess G b m ts) (n - m) d ≡ role_of H c n s
   ats_site d (in_part {G = G} {b = b} {m = m} {t = t} {n = n} a) =
       let r = at_range a in
       left_of _ _ m n (size t) d (length-sites G b m t) r.0 r.1 ∙ at_site d a

@@ -1,8 +1,8 @@
 -- The binder of a variable in a stack of frames.
 use Rattle.std.proofs.Common.{◌≡◌, ℕ, zero, suc, ◌-◌, ◌<◌, ◌≤◌, ltb, List, [], ◌∷◌, reverse, length, get_or, sym, refl, ap, ◌∙◌, arith}
 use Rattle.std.proofs.lemmas.List.{get_or-reverse, length-reverse}
-use Rattle.checker.specs.declared.site.Frame.{Frame}
-use Rattle.checker.specs.declared.site.Site.TheVariants.{Free, Use}
+use Rattle.checker.specs.declared.role.Frame.{Frame}
+use Rattle.checker.specs.declared.role.Role.TheVariants.{Free, Use}
 use Rattle.checker.specs.Faults.{Scope}
 use Rattle.checker.specs.Sites.{resolve}
 

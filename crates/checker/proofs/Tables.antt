@@ -1,9 +1,9 @@
 -- A table where terms stand, taken node by node.
-use Rattle.std.proofs.Common.{◌≡◌, ℕ, ◌+◌, ◌-◌, ◌<◌, ◌≤◌, List, ◌∷◌, ◌++◌, length, get_or, drop, vec_items, vec_len, Vec, sym, refl, ap, ◌∙◌, append_assoc, arith, length-append, length-drop}
-use Rattle.std.specs.declared.alloc.Global.{Global}
+use Rattle.std.proofs.Common.{◌≡◌, ℕ, ◌+◌, ◌-◌, ◌<◌, ◌≤◌, List, [], ◌∷◌, ◌++◌, length, get_or, drop, sym, refl, ap, ◌∙◌, append_assoc, append-nil, arith, length-append, length-drop}
 use Rattle.std.proofs.lemmas.List.{drop_more}
 use Rattle.terms.specs.Term.{Term, Terms, none, part, sizes, count}
-use Rattle.terms.specs.Flat.{part_count, flats, node, parts}
+use Rattle.terms.specs.Flat.{part_count, flat, flats, node, parts}
+use Rattle.terms.specs.Parse.{term, HoldsTerm}
 use Rattle.terms.specs.declared.Node.{Node}
 use Rattle.terms.proofs.Forests.{join, length-flats, flat-node, count-parts, size-parts, flats-join, count-join, sizes-join}
 use Rattle.checker.specs.Sites.{Forest}
@@ -47,7 +47,6 @@ fits-table xs at ts f =
     let l : length (drop at xs) ≡ sizes ts + length f.rest = ap length f.is ∙ length-append (flats ts) f.rest ∙ ap (λ (n : ℕ). n + length f.rest) (length-flats ts) in
     omega (arith, length-drop at xs, l)
 
--- Where a term is left to read, the table goes on.
-pub within-table : (v : Vec Node Global) (at n : ℕ) (ts : Terms) → Forest (drop at (vec_items v)) ts → count ts ≡ n → (n ≡ 0 → ⊥) → at < vec_len v
-within-table v at n none f m h = absurd (h (sym m))
-within-table v at n (part t us) f m h = omega (arith, (opened (vec_items v) at t us f).low, v.ok.0)
+-- The table of a whole term.
+pub whole : (xs : List Node) → HoldsTerm xs → Forest (drop 0 xs) (part (term xs) none)
+whole xs e = record { rest = []; is = e ∙ sym (append-nil (flat (term xs))) ∙ sym (append-nil (flat (term xs) ++ [])) }

@@ -2,7 +2,7 @@
 use Rattle.std.specs.Prelude.{◌≡◌, ℕ, zero, suc, ◌+◌, ◌<◌, ◌≤◌, List, [], ◌∷◌, ◌≢◌, slice_index}
 use Rattle.terms.specs.Term.{Term, var, wire, new, bang, app, tuple, abs, Terms, part, size}
 use Rattle.theory.specs.Acceptance.{Patterns, Bound, pattern, uses, slot}
-use Rattle.checker.specs.declared.site.Frame.{Frame}
+use Rattle.checker.specs.declared.role.Frame.{Frame}
 
 -- The enclosing binders, nearest first: each with its number, its pattern, and the bangs that it stands in.
 abbrev pub Scope : Type 0

@@ -1,19 +1,26 @@
 //! Checking a program against the rules of derivation.
 #![tactic(auto)]
 
-ghost use Rattle.std.specs.Prelude.{IfOk};
+ghost use Rattle.std.specs.Prelude.{◌≡◌, IfOk, MatchOption};
 ghost use Rattle.sheet.specs.Reading.{HoldsZero};
+ghost use Rattle.checker.specs.Found.{roles, site_lines};
+ghost use Rattle.checker.specs.Judged.{Judged};
 ghost use Rattle.checker.specs.Verdict.{Decided, Checked, VerdictIsDetermined};
 
 use accepted::AcceptedProgram;
-use rules::judge;
+use counts::UseCounts;
+use firsts::FirstLines;
+use rules::{first_line, is_shut, is_unbound};
 use sheet::program::Program;
-use sheet::refusal::Refusal;
+use sheet::refusal::{Refusal, Rule};
 use std::alloc::{AllocError, Global};
 use storage::CheckStorage;
-use walk::note_sites;
+use walk::Walk;
 
 pub mod accepted;
+mod counts;
+mod firsts;
+mod role;
 mod rules;
 mod site;
 pub mod storage;
@@ -32,41 +39,42 @@ impl AcceptedProgram {
 impl CheckStorage {
     /// Reserves the memory for checking programs of up to 4,096 nodes.
     pub fn new(heap: Global) -> Result<CheckStorage, AllocError> {
-        let frames = Vec::with_capacity(heap, 4096)?;
-        let sites = Vec::with_capacity(heap, 4096)?;
-        let mut counts = Vec::new(heap);
-        counts.resize(32768, 0)?;
-        let mut firsts = Vec::new(heap);
-        firsts.resize(4096, u16::MAX)?;
         Ok(CheckStorage {
-            frames,
-            sites,
-            counts,
-            firsts,
+            walk: Walk::new(heap)?,
+            counts: UseCounts::new(heap)?,
+            firsts: FirstLines::new(heap)?,
         })
     }
+
+    // The verdict on the sites of the last walk.
+    fn judge(&mut self) -> Result<(), Refusal>
+        ensures { Judged (roles self.old.walk.sites.items) (site_lines self.old.walk.sites.items) result }
+    {
+        let sites = self.walk.sites();
+        unbroken(Rule::Unbound, first_line(sites, is_unbound))?;
+        self.counts.count(sites);
+        unbroken(
+            Rule::Misused,
+            first_line(sites, |site| self.counts.is_misused(site)),
+        )?;
+        unbroken(Rule::Shut, first_line(sites, is_shut))?;
+        unbroken(Rule::Repeated, self.firsts.first_repeated(sites))
+    }
+}
+
+// The refusal at the smallest line that breaks the rule, if there is one.
+fn unbroken(rule: Rule, line: Option<u16>) -> Result<(), Refusal>
+    ensures { MatchOption line (result ≡ Ok tt) (λ l. result ≡ Err (record { rule = rule; line = l })) }
+{
+    line.map_or(Ok(()), |line| Err(Refusal { rule, line }))
 }
 
 // The verdict on a program.
 fn verdict(program: &Program, storage: &mut CheckStorage) -> Result<(), Refusal>
     ensures { Decided result program.now }
 {
-    storage.frames.clear();
-    storage.sites.clear();
-    let _end = note_sites(
-        program.nodes(),
-        0,
-        1,
-        0,
-        &mut storage.frames,
-        &mut storage.sites,
-    );
-    judge(
-        storage.sites.as_slice(),
-        program.lines().as_slice(),
-        &mut storage.counts,
-        &mut storage.firsts,
-    )
+    storage.walk.note(program.table().as_slice());
+    storage.judge()
 }
 
 /// Checks a program. One that the rules derive changes places with the program that `place` holds. Any other is refused, with

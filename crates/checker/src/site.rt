@@ -1,33 +1,12 @@
 //! What checking notes of a program's nodes.
+ghost use Rattle.checker.specs.Roles.{Ranged, Ranged-prop};
 
-/// A binder that a node stands within: its number, its pattern, and the bangs that it stands in.
-#[derive(Clone, Copy)]
-pub struct Frame {
-    pub number: u16,
-    pub pattern: u8,
-    pub depth: u16,
-}
+use crate::role::Role;
 
-/// What the rules need to know of a node.
+/// A node, by what it is to the rules and by its line.
 #[derive(Clone, Copy)]
-pub enum Site {
-    Other,
-    /// A variable that has no binder.
-    Free,
-    /// A variable: its binder's number and pattern, its place, and whether a bang lies between.
-    Use {
-        binder: u16,
-        pattern: u8,
-        place: u8,
-        banged: bool,
-    },
-    /// A wire, and whether it stands in a bang.
-    Lead {
-        wire: u16,
-        banged: bool,
-    },
-    /// A binder with its pattern.
-    Opening {
-        pattern: u8,
-    },
+pub struct Site {
+    pub role: Role,
+    pub line: u16,
+    ghost ranged: { Ranged role } by { Ranged-prop role },
 }

@@ -1,89 +1,131 @@
 //! A walk over a program's table that notes what the rules need to know of each node.
-ghost use Rattle.std.specs.Prelude.{◌≡◌, ◌+◌, ◌≤◌, reverse, drop, vec_len, vec_capacity};
+ghost use Rattle.std.specs.Prelude.{◌≡◌, ◌+◌, ◌<◌, ◌≤◌, true, [], length, reverse, take, drop, vec_len, vec_capacity, All};
 ghost use Rattle.terms.specs.Term.{Terms, count, sizes};
-ghost use Rattle.checker.specs.Sites.{Forest, Stand, resolve, site_at, sitess, Walked};
+ghost use Rattle.terms.specs.Parse.{term, HoldsTerm};
+ghost use Rattle.terms.specs.Shape.{shaped};
+ghost use Rattle.sheet.specs.Located.{nodes_in, lines_in};
+ghost use Rattle.checker.specs.Sites.{Forest, Stand, resolve, role_at, sites, sitess, Walked};
+ghost use Rattle.checker.specs.Found.{roles, site_lines};
 
-use crate::site::{Frame, Site};
+use crate::role::{Frame, Role};
+use crate::site::Site;
+use sheet::located::LocatedNode;
+use std::alloc::{AllocError, Global};
 use terms::{Kind, Node};
 
-// The site of a variable that stands within `frames`, nearest last, and `bangs` bangs.
-fn resolved(frames: &Vec<Frame>, up: u16, place: u8, bangs: u16) -> Site
-    ensures { result ≡ resolve (reverse frames.now.items) bangs up place }
-{
-    if (up as usize) < frames.len() {
-        let frame = frames[frames.len() - 1 - up as usize];
-        Site::Use {
-            binder: frame.number,
-            pattern: frame.pattern,
-            place,
-            banged: frame.depth < bangs,
-        }
-    } else {
-        Site::Free
-    }
+/// The binders around the node where the walk stands, nearest last, and the sites of the nodes before it.
+#[derive(Drop)]
+pub(crate) struct Walk {
+    frames: Vec<Frame>,
+    sites: Vec<Site>,
+    ghost frame_room: { 4096 ≤ vec_capacity frames },
+    ghost site_room: { 4096 ≤ vec_capacity sites },
+    ghost few: { vec_len sites ≤ 4096 },
+    ghost numbered: { All (λ f. f.number < 4096) frames.items },
 }
 
-// The site of a node that stands within `frames`, nearest last, and `bangs` bangs.
-fn site_of(node: Node, frames: &Vec<Frame>, bangs: u16) -> Site
-    ensures { result ≡ site_at (reverse frames.now.items) bangs node.kind }
-{
-    match node.kind {
-        Kind::Variable { place, up } => resolved(frames, up, place, bangs),
-        Kind::Wire(wire) => Site::Lead {
-            wire: wire.number(),
-            banged: 0 < bangs,
-        },
-        Kind::Binder(pattern) => Site::Opening { pattern },
-        _ => Site::Other,
+impl Walk {
+    /// Reserves the memory for walks over up to 4,096 nodes.
+    pub fn new(heap: Global) -> Result<Walk, AllocError> {
+        Ok(Walk {
+            frames: Vec::with_capacity(heap, 4096)?,
+            sites: Vec::with_capacity(heap, 4096)?,
+        })
     }
-}
 
-// Notes the sites of the `pending` terms that stand from `at` on, at the end of `sites`. They stand within `frames`,
-// nearest last, and `bangs` bangs. Answers the number after their last node.
-pub(crate) fn note_sites(
-    table: &Vec<Node>,
-    at: usize,
-    pending: usize,
-    bangs: u16,
-    frames: &mut Vec<Frame>,
-    sites: &mut Vec<Site>,
-) -> usize
-    requires small { vec_len table.now ≤ 4096 }
-    requires stand { Stand table.now.items at pending }
-    requires few { bangs ≤ at }
-    requires deep { vec_len frames.old ≤ at }
-    requires deepest { vec_len table.now ≤ vec_capacity frames.old }
-    requires noted { vec_len sites.old ≡ at }
-    requires room { vec_len table.now ≤ vec_capacity sites.old }
-    ensures { (ts : Terms) → Forest (drop at table.now.items) ts → count ts ≡ pending → Walked (at + sizes ts) (sitess (reverse frames.old.items) bangs at ts) result sites.old sites.new frames.old frames.new }
-{
-    if pending == 0 {
-        return at;
+    /// The sites of the nodes that were walked over.
+    pub fn sites(&self) -> &[Site]
+        ensures { result.now ≡ self.now.sites.items }
+    {
+        self.sites.as_slice()
     }
-    let node = table[at];
-    sites.push_reserved(site_of(node, frames, bangs));
-    match node.kind {
-        Kind::Bang => {
-            let after = note_sites(table, at + 1, 1, bangs + 1, frames, sites);
-            note_sites(table, after, pending - 1, bangs, frames, sites)
+
+    // The role of a variable that stands within `bangs` bangs.
+    fn resolved(&self, up: u16, place: u8, bangs: u16) -> Role
+        ensures { result ≡ resolve (reverse self.now.frames.items) bangs up place }
+    {
+        match self.frames.len().checked_sub(up as usize + 1) {
+            Some(nearest) => {
+                let frame = self.frames[nearest];
+                Role::Use {
+                    binder: frame.number,
+                    pattern: frame.pattern,
+                    place,
+                    banged: frame.depth < bangs,
+                }
+            }
+            None => Role::Free,
         }
-        Kind::Binder(pattern) => {
-            frames.push_reserved(Frame {
-                number: at as u16,
+    }
+
+    // The role of the node with the number `at`, which stands within `bangs` bangs.
+    fn role_of(&self, node: Node, at: u16, bangs: u16) -> Role
+        ensures { result ≡ role_at (reverse self.now.frames.items) bangs at node.kind }
+    {
+        match node.kind {
+            Kind::Variable { place, up } => self.resolved(up, place, bangs),
+            Kind::Wire(wire) => Role::Lead {
+                wire: wire.number(),
+                banged: 0 < bangs,
+            },
+            Kind::Binder(pattern) => Role::Opening {
+                number: at,
                 pattern,
-                depth: bangs,
-            });
-            let after = note_sites(table, at + 1, 1, bangs, frames, sites);
-            let _own = frames.pop();
-            note_sites(table, after, pending - 1, bangs, frames, sites)
+            },
+            _ => Role::Other,
         }
-        _ => note_sites(
-            table,
-            at + 1,
-            pending - 1 + node.parts(),
-            bangs,
-            frames,
-            sites,
-        ),
+    }
+
+    // Notes the sites of the `pending` terms that stand from `at` on, within `bangs` bangs. Answers the number after
+    // their last node.
+    fn note_terms(&mut self, table: &[LocatedNode], at: usize, pending: usize, bangs: u16) -> usize
+        requires small { length table.now ≤ 4096 }
+        requires stand { Stand (nodes_in table.now) at pending }
+        requires few { bangs ≤ at }
+        requires deep { vec_len self.old.frames ≤ at }
+        requires noted { vec_len self.old.sites ≡ at }
+        requires lines { site_lines self.old.sites.items ≡ take at (lines_in table.now) }
+        ensures walked { (ts : Terms) → Forest (drop at (nodes_in table.now)) ts → count ts ≡ pending → Walked (at + sizes ts) (sitess (reverse self.old.frames.items) bangs at ts) result self.old.sites self.new.sites self.old.frames self.new.frames }
+        ensures lines { site_lines self.new.sites.items ≡ take result (lines_in table.now) }
+    {
+        if pending == 0 {
+            return at;
+        }
+        let located = table[at];
+        let role = self.role_of(located.node, at as u16, bangs);
+        self.sites.push_reserved(Site {
+            role,
+            line: located.line,
+        });
+        match located.node.kind {
+            Kind::Bang => {
+                let after = self.note_terms(table, at + 1, 1, bangs + 1);
+                self.note_terms(table, after, pending - 1, bangs)
+            }
+            Kind::Binder(pattern) => {
+                self.frames.push_reserved(Frame {
+                    number: at as u16,
+                    pattern,
+                    depth: bangs,
+                });
+                let after = self.note_terms(table, at + 1, 1, bangs);
+                let _own = self.frames.pop();
+                self.note_terms(table, after, pending - 1, bangs)
+            }
+            _ => self.note_terms(table, at + 1, pending - 1 + located.node.parts(), bangs),
+        }
+    }
+
+    /// Notes the sites of a term.
+    pub fn note(&mut self, table: &[LocatedNode])
+        requires small { length table.now ≤ 4096 }
+        requires tree { HoldsTerm (nodes_in table.now) }
+        requires formed { shaped (term (nodes_in table.now)) ≡ true }
+        ensures roles { roles self.new.sites.items ≡ sites [] 0 0 (term (nodes_in table.now)) }
+        ensures lines { site_lines self.new.sites.items ≡ lines_in table.now }
+    {
+        self.frames.clear();
+        self.sites.clear();
+        let _end = self.note_terms(table, 0, 1, 0);
     }
 }
