@@ -1,16 +1,12 @@
 -- A sheet read line by line.
-use Rattle.std.proofs.Common.{◌≡◌, ℕ, suc, ◌+◌, ◌-◌, ◌<◌, ◌≤◌, true, false, eqb, List, [], ◌∷◌, ◌++◌, length, take, drop, Some, None, Option, MatchOption, Ok, Err, Result, IsErrAnd, sym, refl, ap, ◌∙◌, subst, append_assoc, append-nil, arith, length-append}
+use Rattle.std.proofs.Common.{◌≡◌, ℕ, suc, ◌+◌, ◌-◌, ◌<◌, ◌≤◌, true, false, eqb, List, [], ◌∷◌, ◌++◌, length, take, drop, Some, None, Option, MatchOption, sym, refl, ap, ◌∙◌, subst, append_assoc, append-nil, arith, length-append}
 use Rattle.std.proofs.lemmas.Bool.{both_ways, and_parts, eqb-true}
 use Rattle.std.proofs.lemmas.List.{append_cancel_right, drop_at, length_push, take-append-drop}
 use Rattle.std.specs.Borrow.{Bor}
-use Rattle.std.specs.Option.{ok_or}
 use lib.Pointwise.{pointwise}
 use Rattle.sheet.specs.Entry.{Entry, written, Each, Proper}
 use Rattle.sheet.specs.Entries.{entry, Parses}
-use Rattle.sheet.specs.Lines.{Lined}
-use Rattle.sheet.specs.Reading.{Refuses}
 use Rattle.sheet.specs.declared.line.Line.{Line}
-use Rattle.sheet.specs.declared.refusal.Refusal.{Refusal}
 use Rattle.sheet.specs.Sheet.{text, times, Sized, used, Earlier, Begins, Malformed, Misplaced, Unused, Says}
 use Rattle.sheet.specs.Uses.{Fits, LeastUnused}
 use Rattle.sheet.proofs.Cutting.{Ending, ended, unended, Piece}
@@ -108,18 +104,6 @@ ended_line l (Some x) o h p = go o p
     go : (o : Option Line) → Parses x.now o → Ended l o
     go (Some d) p = (cut ∙ ap (λ r. r ++ (10 ∷ [])) p.text, p.proper)
     go None p = λ e q w. p e q (append_cancel_right x.now (written e) (10 ∷ []) (sym cut ∙ w))
-
-pub refused : (bs : List ℕ) (es : List Entry) (r : Result (Unit {0}) Refusal) (f : Refusal) → IsErrAnd r (λ g. g ≡ f) → Refuses bs f.rule f.line → Lined bs r es
-refused bs es (Ok u) f e h = absurd e
-refused bs es (Err g) f e h = subst (λ (x : Refusal). Refuses bs x.rule x.line) (sym e) h
-
-pub no_line : (o : Option Line) (f g : Refusal) → Err f ≡ ok_or o g → (o ≡ None) × (f ≡ g)
-no_line None f g e = (refl, cc)
-no_line (Some l) f g e = cc
-
-pub some_line : (o : Option Line) (l : Line) (g : Refusal) → Ok l ≡ ok_or o g → o ≡ Some l
-some_line None l g e = cc
-some_line (Some d) l g e = cc
 
 -- A line that an entry writes, before the rest.
 pub line_first : (rest l rest' : List ℕ) (e : Entry) → Piece rest l rest' → l ≡ written e ++ (10 ∷ []) → rest ≡ written e ++ (10 ∷ rest')

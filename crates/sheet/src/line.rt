@@ -8,7 +8,7 @@ use terms::Kind;
 #[derive(Drop)]
 pub(crate) struct Numbers {
     list: [u16; 8],
-    count: u8,
+    count: usize,
 }
 
 // Clauses see the list of the numbers.
@@ -38,7 +38,7 @@ impl Numbers {
         ensures { result ≡ number ∷ [] }
     {
         Numbers {
-            list: [number, 0, 0, 0, 0, 0, 0, 0],
+            list: [number; 8],
             count: 1,
         }
     }
@@ -47,7 +47,7 @@ impl Numbers {
     pub(crate) fn push(&mut self, number: u16) -> Option<()>
         ensures { MatchOption result (8 ≤ length self.old) (λ _. (length self.old < 8) × (self.new ≡ self.old ++ number ∷ [])) }
     {
-        let place = self.count as usize;
+        let place = self.count;
         if place == self.list.len() {
             return None;
         }
@@ -61,7 +61,7 @@ impl Numbers {
         ensures numbers { result.now ≡ self.now }
         ensures few { length self.now ≤ 8 }
     {
-        &self.list[..self.count as usize]
+        &self.list[..self.count]
     }
 }
 

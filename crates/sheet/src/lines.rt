@@ -43,10 +43,9 @@ impl ReadStorage {
         self.used.push_reserved(false);
         for (i, text) in sheet.split_inclusive(|b| *b == b'\n').enumerate() {
             let number = i as u16 + 1;
-            let line = text
-                .strip_suffix(b"\n")
-                .and_then(line_of)
-                .ok_or(Rule::Form.at(number))?;
+            let Some(line) = text.strip_suffix(b"\n").and_then(line_of) else {
+                return Err(Rule::Form.at(number));
+            };
             if !mark(line.parts.as_slice(), &mut self.used) {
                 return Err(Rule::Part.at(number));
             }

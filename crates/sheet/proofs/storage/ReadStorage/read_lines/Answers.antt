@@ -9,12 +9,12 @@ use Rattle.sheet.specs.Reading.{Refuses}
 use Rattle.sheet.specs.Uses.{Marks, Fits, LeastUnused}
 use Rattle.sheet.specs.declared.line.Line.{Line}
 use Rattle.sheet.specs.declared.refusal.Refusal.{Refusal}
-use Rattle.sheet.proofs.Beginning.{begins, goes_on, Ended, ended_line, line_first, malformed, misplaced, unused, says, few-lines, last_unused, used_push, refused, no_line, some_line}
+use Rattle.sheet.proofs.Beginning.{begins, goes_on, Ended, ended_line, line_first, malformed, misplaced, unused, says, few-lines, last_unused, used_push}
 use Rattle.sheet.proofs.Cutting.{Piece, next_line}
 use Rattle.sheet.proofs.Marking.{marks_push}
 use Rattle.sheet.proofs.Times.{times-append}
 use Rattle.sheet.proofs.storage.ReadStorage.read_lines.Goals as goal
-use Rattle.sheet.proofs.storage.ReadStorage.read_lines.Goals.{In-Some, In_ok-line, In-None, After-deref}
+use Rattle.sheet.proofs.storage.ReadStorage.read_lines.Goals.{In-Some, In-Some-and_then, In-None, After-deref}
 
 pub loop-i-init : goal.loop-i-init
 loop-i-init c =
@@ -47,18 +47,17 @@ overflow_cast-number c = omega (arith, few (goal.at.overflow_cast-number c).In-S
 pub overflow_add-number : goal.overflow_add-number
 overflow_add-number c = omega (arith, few (goal.at.overflow_add-number c).In-Some)
 
-pub returns-in_err-line : goal.returns-in_err-line
-returns-in_err-line c =
-    let i = (goal.at.returns-in_err-line c).In-Some in
-    let n = no_line c.and_then.result c.in_err-line.field-0.0 c.at-in-loop-i.result c.in_err-line.ensures.value in
-    let s = subst (λ o. Ended c.in-Some.text.now o) n.0 (ended_line c.in-Some.text.now c.strip_suffix.result c.and_then.result c.strip_suffix.ensures.cases c.and_then.ensures) in
-    refused c.args.sheet.now _ c.from_residual.result c.in_err-line.field-0.0 c.from_residual.ensures.1
-    (subst (λ (f : Refusal). Refuses c.args.sheet.now f.rule f.line) (sym (n.1 ∙ c.at-in-loop-i.ensures)) (malformed c.args.sheet.now _ _ c.in-Some.text.now _ _ c.loop-i.invariant.2 (line i) s (omega (arith, numbered i))))
+pub returns-in_default : goal.returns-in_default
+returns-in_default c =
+    let i = (goal.at.returns-in_default c).In-Some in
+    let s = subst (λ o. Ended c.in-Some.text.now o) c.in_default.is (ended_line c.in-Some.text.now c.strip_suffix.result c.and_then.result c.strip_suffix.ensures.cases c.and_then.ensures) in
+    subst (λ (f : Refusal). Refuses c.args.sheet.now f.rule f.line) (sym c.at-in_default.ensures)
+    (malformed c.args.sheet.now _ _ c.in-Some.text.now _ _ c.loop-i.invariant.2 (line i) s (omega (arith, numbered i)))
 
 -- What the line says, and that it comes first.
-said : (c : goal.In_ok-line) → Ended c.in-Some.text.now (Some c.in_ok-line.line)
+said : (c : goal.In-Some-and_then) → Ended c.in-Some.text.now (Some c.in-Some-and_then.line)
 said c =
-    subst (λ o. Ended c.in-Some.text.now o) (some_line c.and_then.result c.in_ok-line.line c.at-in-loop-i.result c.in_ok-line.ensures.value)
+    subst (λ o. Ended c.in-Some.text.now o) c.in-Some-and_then.is
     (ended_line c.in-Some.text.now c.strip_suffix.result c.and_then.result c.strip_suffix.ensures.cases c.and_then.ensures)
 
 follows : (c : goal.In-Some) (l : Line) → Ended c.in-Some.text.now (Some l) → split_inclusive_rest (enumerate_source c.loop-i.i-iterator) ≡ written (entry l) ++ (10 ∷ split_inclusive_rest (enumerate_source c.next.new.self))
@@ -71,24 +70,24 @@ fewer c l s =
 pub returns-then-not-mark : goal.returns-then-not-mark
 returns-then-not-mark c =
     let i = (goal.at.returns-then-not-mark c).In-Some in
-    let s = said (goal.at.returns-then-not-mark c).In_ok-line in
+    let s = said (goal.at.returns-then-not-mark c).In-Some-and_then in
     let es : List Entry = entries (vec_items c.loop-i.self.sheet_lines) in
     let m : Marks c.deref_mut.result.now (used es) = subst (λ (us : List Bool). Marks us (used es)) (sym c.deref_mut.ensures.value) c.loop-i.invariant.3 in
     let h = c.if-not-mark.ensures (used es) m c.loop-i.invariant.2.placed.once in
     let n : length c.deref_mut.result.now ≡ length es + 1 = omega (arith, c.deref_mut.ensures.len, c.loop-i.invariant.4, c.loop-i.invariant.5, numbered i, c.in-Some.ensures.steps.1) in
-    let k : Fits (length es + 1) (used es) c.in_ok-line.line.parts → ⊥ = λ f. h (subst (λ (k : ℕ). Fits k (used es) c.as_slice.result.now) (sym n) (subst (λ (ps : List ℕ). Fits (length es + 1) (used es) ps) (sym c.as_slice.ensures.numbers) f)) in
+    let k : Fits (length es + 1) (used es) c.in-Some-and_then.line.parts → ⊥ = λ f. h (subst (λ (k : ℕ). Fits k (used es) c.as_slice.result.now) (sym n) (subst (λ (ps : List ℕ). Fits (length es + 1) (used es) ps) (sym c.as_slice.ensures.numbers) f)) in
     subst (λ (f : Refusal). Refuses c.args.sheet.now f.rule f.line) (sym c.at-then-not-mark.ensures)
-    (inl (misplaced c.args.sheet.now es _ _ (entry c.in_ok-line.line) _ c.loop-i.invariant.2 (follows i c.in_ok-line.line s) s.1 k (omega (arith, numbered i))))
+    (inl (misplaced c.args.sheet.now es _ _ (entry c.in-Some-and_then.line) _ c.loop-i.invariant.2 (follows i c.in-Some-and_then.line s) s.1 k (omega (arith, numbered i))))
 
 pub push_reserved-requires-in-loop-i : goal.push_reserved-requires-in-loop-i
 push_reserved-requires-in-loop-i c =
     let i = (goal.at.push_reserved-requires-in-loop-i c).In-Some in
-    omega (arith, fewer i c.in_ok-line.line (said (goal.at.push_reserved-requires-in-loop-i c).In_ok-line), c.in-Some.ensures.steps.1, c.loop-i.invariant.5, c.loop-i.self.line_room)
+    omega (arith, fewer i c.in-Some-and_then.line (said (goal.at.push_reserved-requires-in-loop-i c).In-Some-and_then), c.in-Some.ensures.steps.1, c.loop-i.invariant.5, c.loop-i.self.line_room)
 
 pub push_reserved-requires-in-loop-i-2 : goal.push_reserved-requires-in-loop-i-2
 push_reserved-requires-in-loop-i-2 c =
     let i = (goal.at.push_reserved-requires-in-loop-i-2 c).In-Some in
-    omega (arith, fewer i c.in_ok-line.line (said (goal.at.push_reserved-requires-in-loop-i-2 c).In_ok-line), c.in-Some.ensures.steps.1, c.loop-i.invariant.4, c.loop-i.invariant.5, c.loop-i.self.mark_room)
+    omega (arith, fewer i c.in-Some-and_then.line (said (goal.at.push_reserved-requires-in-loop-i-2 c).In-Some-and_then), c.in-Some.ensures.steps.1, c.loop-i.invariant.4, c.loop-i.invariant.5, c.loop-i.self.mark_room)
 
 -- A slice of a whole vector, put back into it.
 put_back : (xs ys : List Bool) (n : ℕ) → length xs ≡ n → take n (xs ++ drop (length xs) ys) ≡ xs
@@ -97,16 +96,16 @@ put_back xs ys n e = take-append-le n xs (drop (length xs) ys) (omega arith) ∙
 pub loop-i-preserved : goal.loop-i-preserved
 loop-i-preserved c =
     let i = (goal.at.loop-i-preserved c).In-Some in
-    let s = said (goal.at.loop-i-preserved c).In_ok-line in
+    let s = said (goal.at.loop-i-preserved c).In-Some-and_then in
     let bs : List ℕ = c.args.sheet.now in
     let es : List Entry = entries (vec_items c.loop-i.self.sheet_lines) in
-    let e : Entry = entry c.in_ok-line.line in
+    let e : Entry = entry c.in-Some-and_then.line in
     let m : Marks c.deref_mut.result.now (used es) = subst (λ (us : List Bool). Marks us (used es)) (sym c.deref_mut.ensures.value) c.loop-i.invariant.3 in
     let h = c.if-not-mark.ensures (used es) m c.loop-i.invariant.2.placed.once in
     let n : length c.deref_mut.result.now ≡ length es + 1 = omega (arith, c.deref_mut.ensures.len, c.loop-i.invariant.4, c.loop-i.invariant.5, numbered i, c.in-Some.ensures.steps.1) in
     let f : Fits (length es + 1) (used es) e.1 = subst (λ (ps : List ℕ). Fits (length es + 1) (used es) ps) c.as_slice.ensures.numbers (subst (λ (k : ℕ). Fits k (used es) c.as_slice.result.now) n h.0) in
-    let b = goes_on bs es _ _ e c.loop-i.invariant.2 (follows i c.in_ok-line.line s) s.1 f in
-    let g : entries (vec_items c.push_reserved-in-loop-i.new.self) ≡ es ++ (e ∷ []) = ap entries c.push_reserved-in-loop-i.ensures.items ∙ map-append entry (vec_items c.loop-i.self.sheet_lines) (c.in_ok-line.line ∷ []) in
+    let b = goes_on bs es _ _ e c.loop-i.invariant.2 (follows i c.in-Some-and_then.line s) s.1 f in
+    let g : entries (vec_items c.push_reserved-in-loop-i.new.self) ≡ es ++ (e ∷ []) = ap entries c.push_reserved-in-loop-i.ensures.items ∙ map-append entry (vec_items c.loop-i.self.sheet_lines) (c.in-Some-and_then.line ∷ []) in
     let k : length c.mark.new.used ≡ length (es ++ (e ∷ [])) = omega (arith, c.mark.auto.used, n, length-append es (e ∷ [])) in
     let z : times (length c.mark.new.used) (used (es ++ (e ∷ []))) ≡ 0 = ap (λ j. times j (used (es ++ (e ∷ [])))) k ∙ last_unused bs (es ++ (e ∷ [])) _ b in
     let w : Marks c.mark.new.used (used es ++ e.1) = subst (λ (ps : List ℕ). Marks c.mark.new.used (used es ++ ps)) c.as_slice.ensures.numbers h.1 in
