@@ -1,13 +1,14 @@
 -- Words of 64 bits as sets of wires.
-use Rattle.std.proofs.Common.{◌≡◌, ℕ, suc, ◌+◌, ◌-◌, ◌*◌, ◌/◌, ◌%◌, ◌^◌, ◌<◌, ◌≤◌, Bool, true, false, cond, ◌&&◌, ◌||◌, eqb, ltb, ◌⊎◌, sym, refl, ap, ◌∙◌, inl, inr, ⊎_elim, add-zero, add-mul, one-mul, pow-suc, arith, lit<, lit≤, pow_mono, le-ltb, lt-ltb, eq-eqb, ne_eqb, eqb-true}
+use Rattle.std.proofs.Common.{◌≡◌, ℕ, zero, suc, ◌+◌, ◌-◌, ◌*◌, ◌/◌, ◌%◌, ◌^◌, ◌<◌, ◌≤◌, Bool, true, false, cond, ◌&&◌, ◌||◌, eqb, ltb, ◌⊎◌, sym, refl, ap, ◌∙◌, inl, inr, ⊎_elim, add-zero, mod-eq_of_lt, add-mul, one-mul, pow-suc, one-add, arith, lit<, lit≤, pow_mono, le-ltb, lt-ltb, eq-eqb, ne_eqb, eqb-true}
 use mathlib.Core.Path.{fun_ext}
 use native.Mathlib.Nat.{mul-mod_left, div-eq_of_lt}
 use lib.Bits.{bit_or, or_shr, or_mod}
-use Rattle.std.proofs.lemmas.Nat.{pow_pos, pow-add, div-mul-add, pow_below, mod_below, mod-mul-add}
+use lib.Count.{ones, ones_cat, ones-ones, count_leading_zeros, leading_top}
+use Rattle.std.proofs.lemmas.Nat.{pow_pos, pow-add, div-mul-add, mod-pow-add, pow_below, mod_below, mod-mul-add}
 use Rattle.std.proofs.lemmas.Bool.{cases_order, cases_lt}
-use Rattle.chip.specs.Chip.{in_mask, AllHeld, HighestFree}
+use Rattle.chip.specs.Chip.{in_mask, HighestFree}
 use Rattle.machines.specs.Machine.{counted, with_wire}
-use Rattle.machines.proofs.Counts.{counted_past, counted_all, counted_missing}
+use Rattle.machines.proofs.Counts.{counted_past, counted_same}
 
 -- Bit v of a word.
 abbrev bit_at : ℕ → ℕ → Bool
@@ -16,8 +17,36 @@ bit_at m v = eqb (m / 2 ^ v % 2) 1
 digit : (m : ℕ) → (m % 2 ≡ 0) ⊎ (m % 2 ≡ 1)
 digit m = ⊎_elim (λ h. inl (omega arith)) (λ h. inr (omega (arith, mod_below m 2 (lit< tt)))) (cases_lt (m % 2) 1)
 
+-- The bits below n, counted.
+bit_number : (m v : ℕ) → cond (bit_at m v) 1 0 ≡ m / 2 ^ v % 2
+bit_number m v =
+    ⊎_elim
+    (λ (e : m / 2 ^ v % 2 ≡ 0). ap (λ x. cond (eqb x 1) 1 0) e ∙ sym e)
+    (λ (e : m / 2 ^ v % 2 ≡ 1). ap (λ x. cond (eqb x 1) 1 0) e ∙ sym e)
+    (digit (m / 2 ^ v))
+
+ones_digit : (d : ℕ) → (d ≡ 0) ⊎ (d ≡ 1) → ones d ≡ d
+unfolding ones
+ones_digit d h = ⊎_elim (λ (e : d ≡ 0). ap ones e ∙ sym e) (λ (e : d ≡ 1). ap ones e ∙ sym e) h
+
+counted_ones : (m n : ℕ) → counted (bit_at m) n ≡ ones (m % 2 ^ n)
+unfolding counted ones
+counted_ones m zero = let e : m % 1 ≡ 0 = omega (arith, mod_below m 1 (lit< tt)) in sym (ap ones e)
+counted_ones m (suc n) =
+    let d = m / 2 ^ n % 2 in
+    let e : m % 2 ^ suc n ≡ d * 2 ^ n + m % 2 ^ n = ap (λ k. m % 2 ^ k) (sym (one-add n)) ∙ mod-pow-add m 1 n in
+    let c : ones (m % 2 ^ suc n) ≡ ones d + ones (m % 2 ^ n) = ap ones e ∙ ones_cat n d (m % 2 ^ n) (mod_below m (2 ^ n) (pow_pos n)) in
+    omega (arith, c, bit_number m n, ones_digit d (digit (m / 2 ^ n)), counted_ones m n)
+
 in_word : (m v : ℕ) → v < 64 → in_mask m v ≡ bit_at m v
 in_word m v h = ap (λ b. b && bit_at m v) (lt-ltb v 64 h)
+
+-- The wires of a mask are as many as it has ones.
+pub counted_mask : (m : ℕ) → m < 2 ^ 64 → counted (in_mask m) 4096 ≡ ones m
+counted_mask m h =
+    counted_past (in_mask m) 64 4096 (lit≤ tt) (λ v l. ap (λ b. b && bit_at m v) (le-ltb v 64 l))
+    ∙ counted_same (in_mask m) (bit_at m) 64 (λ v l. in_word m v l)
+    ∙ counted_ones m 64 ∙ ap ones (mod-eq_of_lt {n = m} {m = 2 ^ 64} h)
 
 -- One bit more.
 pow_bit : (j v : ℕ) → 2 ^ j / 2 ^ v % 2 ≡ cond (eqb v j) 1 0
@@ -69,43 +98,45 @@ word v h =
     let w : 2 ^ 64 ≡ 2 ^ (63 - v) * 2 * 2 ^ v = ap (λ x. 2 ^ x) k ∙ pow-add 2 (63 - v + 1) v ∙ ap (λ x. x * 2 ^ v) (pow-add 2 (63 - v) 1) in
     sym (add-mul (p * 2) 2 (2 ^ v)) ∙ ap (λ x. x * 2 ^ v) (sym (add-mul p 1 2)) ∙ ap (λ x. x * 2 * 2 ^ v) (sym e) ∙ sym w
 
--- The inverted word is below 2^v: so bit v of the word is set.
-bit_above : (m v : ℕ) → m < 18446744073709551616 → 18446744073709551615 - m < 2 ^ v → v < 64 → in_mask m v ≡ true
-bit_above m v fits above k =
-    let q = 2 ^ v in
-    let p = 2 ^ (63 - v) - 1 in
-    let b = q - 1 - (18446744073709551615 - m) in
-    let s : (p * 2 + 1) * q ≡ p * 2 * q + 1 * q = add-mul (p * 2) 1 q in
-    let e : m ≡ (p * 2 + 1) * q + b = omega (arith, word v k, s) in
-    let l : b < q = omega (arith, pow_pos v) in
-    in_word m v k ∙ ap (λ x. eqb (x % 2) 1) (ap (λ x. x / q) e ∙ div-mul-add (p * 2 + 1) q b l) ∙ ap (λ x. eqb x 1) (mod-mul-add p 2 1 (lit< tt))
+-- The highest bit of the inverted word is j: bit j of the word is not set, and all above it are.
+module _ (m j : ℕ) (fits : m < 18446744073709551616) (low : 2 ^ j ≤ 18446744073709551615 - m) (high : 18446744073709551615 - m < 2 ^ suc j) where
+  bit_free : j < 64 → bit_at m j ≡ false
+  bit_free h =
+      let q = 2 ^ j in
+      let p = 2 ^ (63 - j) - 1 in
+      let b = 2 * q - 1 - (18446744073709551615 - m) in
+      let d : 2 ^ suc j ≡ q * 2 = pow-suc 2 j in
+      let e : m ≡ p * 2 * q + b = omega (arith, word j h, d) in
+      let l : b < q = omega (arith, pow_pos j) in
+      ap (λ x. eqb (x % 2) 1) (ap (λ x. x / q) e ∙ div-mul-add (p * 2) q b l) ∙ ap (λ x. eqb x 1) (mul-mod_left p 2)
 
--- Its highest bit is j: so bit j of the word is not set.
-bit_free : (m j : ℕ) → m < 18446744073709551616 → 2 ^ j ≤ 18446744073709551615 - m → 18446744073709551615 - m < 2 * 2 ^ j → j < 64 → in_mask m j ≡ false
-bit_free m j fits low high h =
-    let q = 2 ^ j in
-    let p = 2 ^ (63 - j) - 1 in
-    let b = 2 * q - 1 - (18446744073709551615 - m) in
-    let e : m ≡ p * 2 * q + b = omega (arith, word j h) in
-    let l : b < q = omega (arith, pow_pos j) in
-    in_word m j h ∙ ap (λ x. eqb (x % 2) 1) (ap (λ x. x / q) e ∙ div-mul-add (p * 2) q b l) ∙ ap (λ x. eqb x 1) (mul-mod_left p 2)
+  bit_taken : (v : ℕ) → j < v → v < 64 → bit_at m v ≡ true
+  bit_taken v h k =
+      let q = 2 ^ v in
+      let p = 2 ^ (63 - v) - 1 in
+      let b = q - 1 - (18446744073709551615 - m) in
+      let o : 2 ^ suc j ≤ q = pow_mono h in
+      let s : (p * 2 + 1) * q ≡ p * 2 * q + 1 * q = add-mul (p * 2) 1 q in
+      let e : m ≡ (p * 2 + 1) * q + b = omega (arith, word v k, s) in
+      let l : b < q = omega (arith, pow_pos v) in
+      ap (λ x. eqb (x % 2) 1) (ap (λ x. x / q) e ∙ div-mul-add (p * 2 + 1) q b l) ∙ ap (λ x. eqb x 1) (mod-mul-add p 2 1 (lit< tt))
 
-pub highest : (m j : ℕ) → m < 18446744073709551616 → 2 ^ j ≤ 18446744073709551615 - m → 18446744073709551615 - m < 2 * 2 ^ j → j < 64 → HighestFree (in_mask m) j
-highest m j fits low high h = record {
-  wire = h;
-  free = bit_free m j fits low high h;
-  highest = λ v a b. let more : 2 ^ suc j ≤ 2 ^ v = pow_mono a in bit_above m v fits (omega (arith, pow-suc 2 j)) b;
-}
+-- What the leading zeros of the inverted word say.
+pub highest_bit : (m : ℕ) → m < 18446744073709551615 → (j : ℕ) × (count_leading_zeros 64 (18446744073709551615 - m) + j ≡ 63) × HighestFree (in_mask m) j
+highest_bit m h =
+    let t = leading_top 64 (18446744073709551615 - m) (omega arith) (omega arith) in
+    let j = t.0 in
+    let l : j < 64 = omega (arith, t.1) in (
+      j,
+      omega (arith, t.1),
+      record {
+        wire = l;
+        free = in_word m j l ∙ bit_free m j (omega arith) t.2 t.3 l;
+        highest = λ v a b. in_word m v b ∙ bit_taken m j (omega arith) t.2 t.3 v a b;
+      },
+    )
 
-pub all_held : (m : ℕ) → m < 18446744073709551616 → 18446744073709551615 - m ≡ 0 → AllHeld (in_mask m)
-all_held m fits none v h = bit_above m v fits (omega (arith, pow_pos v)) h
-
--- A mask holds 64 wires if it holds all, and fewer if one is free.
-below_64 : (m : ℕ) → counted (in_mask m) 4096 ≡ counted (in_mask m) 64
-below_64 m = counted_past (in_mask m) 64 4096 (lit≤ tt) (λ v l. ap (λ b. b && bit_at m v) (le-ltb v 64 l))
-
-pub holds_most : (m : ℕ) → AllHeld (in_mask m) → 64 ≤ counted (in_mask m) 4096
-holds_most m all = omega (arith, below_64 m, counted_all (in_mask m) 64 all)
-
-pub holds_fewer : (m j : ℕ) → HighestFree (in_mask m) j → counted (in_mask m) 4096 < 64
-holds_fewer m j free = omega (arith, below_64 m, counted_missing (in_mask m) 64 j free.wire free.free)
+-- A word with fewer than 64 ones is not the full one.
+pub not_full : (m : ℕ) → m < 2 ^ 64 → ones m < 64 → m < 18446744073709551615
+not_full m h k =
+    ⊎_elim (λ a. a) (λ a. let e : m ≡ 2 ^ 64 - 1 = omega arith in let o : ones m ≡ 64 = ap ones e ∙ ones-ones 64 in absurd (omega arith)) (cases_lt m 18446744073709551615)

@@ -70,9 +70,11 @@ impl Wires for Chip {
 
     ghost goes = { fills_go };
 
-    #[tactic(auto, using(crate::proofs::Masks::holds_most, crate::proofs::Masks::holds_fewer))]
     fn take(&mut self) -> Result<Wire, Full> {
-        let wire = self.held.highest_free().ok_or(Full)?;
+        if self.held.count() >= WIRES {
+            return Err(Full);
+        }
+        let wire = self.held.highest_free();
         self.held = self.held.with(wire);
         Ok(wire)
     }

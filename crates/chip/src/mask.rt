@@ -1,7 +1,7 @@
 //! Masks of 64 wires.
-ghost use Rattle.std.specs.Prelude.{◌≡◌, ◌<◌, MatchOption};
-ghost use Rattle.chip.specs.Chip.{in_mask, AllHeld, HighestFree};
-ghost use Rattle.machines.specs.Machine.{with_wire};
+ghost use Rattle.std.specs.Prelude.{◌≡◌, ◌<◌};
+ghost use Rattle.chip.specs.Chip.{in_mask, HighestFree};
+ghost use Rattle.machines.specs.Machine.{counted, wire_count, with_wire};
 ghost use Rattle.machines.specs.Operation.{number};
 
 use terms::Wire;
@@ -19,13 +19,20 @@ impl Mask {
         at < 64 && (self.0 >> at) & 1 == 1
     }
 
-    /// The wire with the largest number that is not in the mask, if there is one.
-    #[tactic(auto, using(crate::proofs::Masks::all_held))]
-    pub(crate) fn highest_free(self) -> Option<Wire>
-        ensures { MatchOption result (AllHeld (in_mask self.0)) (λ w. HighestFree (in_mask self.0) (number w)) }
+    /// How many wires the mask has.
+    pub(crate) fn count(self) -> usize
+        ensures { result ≡ counted (in_mask self.0) wire_count }
     {
-        let at = (!self.0).checked_ilog2()?;
-        Some(Wire::new(at as u16).unwrap())
+        self.0.count_ones() as usize
+    }
+
+    /// The wire with the largest number that is not in the mask.
+    pub(crate) fn highest_free(self) -> Wire
+        requires { counted (in_mask self.0) wire_count < 64 }
+        ensures { HighestFree (in_mask self.0) (number result) }
+    {
+        let zeros = (!self.0).leading_zeros();
+        Wire::new((63 - zeros) as u16).unwrap()
     }
 
     /// The mask with the wire besides.

@@ -12,6 +12,13 @@ module _ (s : ℕ → Bool) (n : ℕ) where
   unfolding counted
   counted_out e = ap (λ b. cond b 1 0 + counted s n) e ∙ omega arith
 
+-- Sets with the same numbers below n.
+pub counted_same : (s t : ℕ → Bool) (n : ℕ) → ((v : ℕ) → v < n → s v ≡ t v) → counted s n ≡ counted t n
+unfolding counted
+counted_same s t zero h = refl
+counted_same s t (suc n) h =
+    ap (λ b. cond b 1 0 + counted s n) (h n (omega arith)) ∙ ap (λ k. cond (t n) 1 0 + k) (counted_same s t n (λ v l. h v (omega arith)))
+
 -- No number from k on is in the set.
 pub counted_past : (s : ℕ → Bool) (k n : ℕ) → k ≤ n → ((v : ℕ) → k ≤ v → s v ≡ false) → counted s n ≡ counted s k
 counted_past s k zero h out = ap (counted s) (omega arith)
@@ -25,26 +32,6 @@ pub counted_all : (s : ℕ → Bool) (n : ℕ) → ((v : ℕ) → v < n → s v 
 unfolding counted
 counted_all s zero all = refl
 counted_all s (suc n) all = omega (arith, counted_in_lem s n (all n (omega arith)), counted_all s n (λ v h. all v (omega arith)))
-
--- At most n numbers below n are in the set,
-digit_most : (b : Bool) → cond b 1 0 ≤ 1
-digit_most true = lit≤ tt
-digit_most false = lit≤ tt
-
-counted_most : (s : ℕ → Bool) (n : ℕ) → counted s n ≤ n
-unfolding counted
-counted_most s zero = lit≤ tt
-counted_most s (suc n) = omega (arith, digit_most (s n), counted_most s n)
-
--- and fewer if one of them is not.
-pub counted_missing : (s : ℕ → Bool) (n j : ℕ) → j < n → s j ≡ false → counted s n < n
-unfolding counted
-counted_missing s zero j h e = omega arith
-counted_missing s (suc n) j h e =
-    ⊎_elim
-    (λ (l : j < n). omega (arith, digit_most (s n), counted_missing s n j l e))
-    (λ (l : n ≤ j). let last : n ≡ j = omega arith in omega (arith, counted_out s n (ap s last ∙ e), counted_most s n))
-    (cases_lt j n)
 
 -- The numbers below k, counted below n.
 pub counted_below : (k n : ℕ) → k ≤ n → counted (λ v. ltb v k) n ≡ k
