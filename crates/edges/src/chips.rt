@@ -56,10 +56,10 @@ fn couplings(rt: HostRuntime) -> Result<(), Fail> {
     let mut table = [0; 64];
     table[3] = 1 << 5;
     for (gate, numbers, answer) in COUPLED {
-        let mut wires = Vec::new(rt.alloc());
-        for number in numbers {
-            wires.push(Wire::new(*number).ok_or("no such wire")?)?;
-        }
+        let wires: Vec<Wire> = numbers
+            .iter()
+            .map(|number| Wire::new(*number).ok_or_else(|| Fail::new("no such wire")))
+            .try_collect(rt.alloc())?;
         let mut machine = chip_machine(0xff, 1, table);
         assert_eq!(rt; machine.apply(gate, wires.as_slice()), answer);
         let once_more = answer.and(Err(GateRefusal::Full));

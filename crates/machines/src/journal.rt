@@ -92,6 +92,7 @@ impl Journal for Last {
 
 /// A list that was lent: each operation is written into it, from its front on. There can be as many operations as it has
 /// records, of which more than 2,000,000 count as 2,000,000.
+// The count is the machine's, and no struct holds it with the list: where a loan inside such a struct ends, no proof sees it.
 impl<'a> Journal for &'a mut [Operation] {
     ghost use Rattle.machines.specs.Listing.{list_most, list_last, Writes};
     ghost use Rattle.machines.specs.Laws.{writes_stay, writes_go};

@@ -5,6 +5,7 @@ ghost use Rattle.tariffs.specs.Prices.{listed};
 use terms::StepKind;
 
 /// The prices of the classical steps, of a grant, and of gates by their width.
+// No array of three, since a generic struct may hold none of a type parameter.
 #[derive(Clone, Copy)]
 pub struct PriceList<T> {
     pub classical: T,
