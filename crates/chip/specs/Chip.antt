@@ -32,10 +32,6 @@ chip_supply c = record { held = in_mask c.held.0; most = 64; allowed = chip_allo
 abbrev pub fresh_chip : ℕ → ℕ → List ℕ → Meaning
 fresh_chip mask o table = record { held = in_mask mask; made = 0; last = None; most_wires = 64; most_operations = min o operation_limit; allowed = chip_allows table }
 
--- All 64 wires are held.
-abbrev pub AllHeld : (ℕ → Bool) → Type 0
-AllHeld held = (v : ℕ) → v < 64 → held v ≡ true
-
 -- The free wire with the largest number.
 pub record HighestFree (held : ℕ → Bool) (w : ℕ) : Type 0 where
   pub wire : w < 64
