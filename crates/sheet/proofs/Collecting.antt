@@ -1,5 +1,5 @@
 -- The numbers in the fields of a line: a line has one list of them.
-use Rattle.std.proofs.Common.{◌≡◌, ℕ, ◌+◌, ◌≤◌, List, [], ◌∷◌, ◌++◌, map, length, Some, None, decimal, Option, sym, refl, ap, ◌∙◌, subst, arith}
+use Rattle.std.proofs.Common.{◌≡◌, ℕ, ◌≤◌, List, [], ◌∷◌, ◌++◌, map, length, Some, None, decimal, Option, sym, refl, ap, ◌∙◌, subst, arith}
 use Rattle.std.proofs.lemmas.List.{append-nil, append_assoc, length_push}
 use Rattle.std.proofs.lemmas.Fmt.{decimal_injective}
 use Rattle.sheet.specs.Entry.{tabbed}
@@ -44,13 +44,6 @@ one_list bs (m ∷ ms) ns p q =
     let i = one_list (tabbed (map decimal ms)) ms f.rest (record { text = refl; range = p.range.1 }) f.fields in
     let s = decimal_injective m f.number (omega (arith, p.range.0)) (omega (arith, f.numeral.range)) f.numeral.text in
     ap (λ x. x ∷ ms) s ∙ ap (λ x. f.number ∷ x) i ∙ sym f.is
-
-pub no_room : (before t f left : List ℕ) → t ≡ 9 ∷ (f ++ left) → 8 ≤ length before → Collects before t None
-no_room before t f left cut full = none
-  where
-    none : (ns : List ℕ) → Fields t ns → length before + length ns ≤ 8 → ⊥
-    none [] w room = let e : 9 ∷ (f ++ left) ≡ [] = sym cut ∙ w.text in let z : ◌≡◌ {A = ℕ} 0 1 = cc in omega arith
-    none (n ∷ ns) w room = omega arith
 
 -- No field is left.
 pub collected : (before : List ℕ) → length before ≤ 8 → Collected before [] before

@@ -8,7 +8,7 @@ use Rattle.std.specs.Option.{option_map}
 use Rattle.sheet.specs.Sheet.{times}
 use Rattle.sheet.specs.Uses.{Marks, Fits, FirstUnused}
 use Rattle.sheet.proofs.Times.{mark_same, mark_other, times-append}
-use Rattle.sheet.proofs.Writing.{each_append, each_at}
+use Rattle.sheet.proofs.Writing.{each_append}
 
 pub marked_once : (us : List Bool) (ws : List ℕ) (p : ℕ) → Marks us ws → p < length us → get_or us p false ≡ true → 1 ≤ times p ws
 marked_once us ws p m l e = ltb-true 0 (times p ws) (sym (m p l) ∙ e)
@@ -41,10 +41,6 @@ marks_more us ws p m q l =
       | inr e ↦
           get_or-set_other us p q true false e ∙ m q (omega arith) ∙ ap (λ i. ltb 0 i) (omega (arith, times-append q ws (p ∷ []), mark_other q p e))
     ]
-
--- A part that is not an earlier line, or is marked, does not fit.
-pub late : (n : ℕ) (ws ps : List ℕ) (i : ℕ) → i < length ps → n ≤ get_or ps i 0 → Fits n ws ps → ⊥
-late n ws ps i l h f = omega (arith, each_at (λ p. p < n) ps i f.earlier l)
 
 pub repeated : (n : ℕ) (ws ps : List ℕ) (i : ℕ) → i < length ps → 1 ≤ times (get_or ps i 0) (ws ++ take i ps) → Fits n ws ps → ⊥
 repeated n ws ps i l h f =

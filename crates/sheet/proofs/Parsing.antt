@@ -1,12 +1,12 @@
 -- The bytes of a line write an entry exactly if they are parsed as that entry.
 use Rattle.std.proofs.Common.{◌≡◌, ℕ, ◌-◌, ◌<◌, ◌≤◌, List, [], ◌∷◌, ◌++◌, map, length, get_or, take, drop, Some, None, decimal, Option, sym, refl, ap, ◌∙◌, subst, arith}
 use Rattle.std.proofs.lemmas.List.{append-nil, take_rest, length-map, nil_from_length}
-use Rattle.terms.specs.Gate.{name, Named}
+use Rattle.terms.specs.Gate.{name}
 use Rattle.terms.specs.declared.Gate.{Gate}
 use Rattle.terms.specs.declared.Kind.{Kind}
 use Rattle.terms.specs.declared.Kind.TheVariants.{Variable, Wire, Constant, Gate as GateNode, New, Bang, Application, Tuple, Binder}
 use Rattle.sheet.specs.Entry.{Entry, own, tabbed, written, Each, Proper}
-use Rattle.sheet.specs.Entries.{entry, Parsed, Parses}
+use Rattle.sheet.specs.Entries.{entry, Parses}
 use Rattle.sheet.specs.Fields.{Fields, Collects, shape, Shapes}
 use Rattle.sheet.specs.declared.line.Line.{Line}
 use Rattle.sheet.proofs.Collecting.{one_list}
@@ -71,20 +71,6 @@ two_bytes (x ∷ y ∷ xs) l e = rw (take_rest (x ∷ y ∷ xs) 2, e) refl
 module _ (xs : List ℕ) (long : 2 ≤ length xs) (tab : get_or xs 1 0 ≡ 9) where
   opened : (e : Entry) → xs ≡ written e → Splits (get_or xs 0 0) (9 ∷ after_tab xs) e
   opened e q = splits (get_or xs 0 0) (9 ∷ after_tab xs) e (sym (two_bytes xs long tab) ∙ q)
-
-  pub gate-line : (l : Line) (g : Gate) → get_or xs 0 0 ≡ 103 → Named (after_tab xs) (Some g) → entry l ≡ (GateNode g, []) → Parsed xs l
-  gate-line l g i n e =
-      let w : written (GateNode g, []) ≡ 103 ∷ (9 ∷ name g) = ap (λ x. 103 ∷ (9 ∷ x)) (append-nil (name g)) in
-      record {
-        text = two_bytes xs long tab ∙ ap (λ x. x ∷ (9 ∷ after_tab xs)) i ∙ ap (λ x. 103 ∷ (9 ∷ x)) n ∙ sym w ∙ ap written (sym e);
-        proper = subst Proper (sym e) (record { own_range = tt; part_count = refl; part_range = tt });
-      }
-
-  pub no_gate : get_or xs 0 0 ≡ 103 → Named (after_tab xs) None → Parses xs None
-  no_gate i n = λ e h q.
-      let s = opened e q in
-      let g = gate-name e.0 e.1 (after_tab xs) (sym s.initial ∙ i) h s.follows in
-      n g.0 g.1
 
   module _ (other : get_or xs 0 0 ≡ 103 → ⊥) where
     numeric-entry : (e : Entry) → Proper e → xs ≡ written e → Numeric e

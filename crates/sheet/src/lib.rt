@@ -46,13 +46,10 @@ impl Program {
 impl ReadStorage {
     /// Reserves the memory that reading a sheet of any size works in.
     pub fn new(heap: Global) -> Result<ReadStorage, AllocError> {
-        let sheet_lines = Vec::with_capacity(heap, 4096)?;
-        let used = Vec::with_capacity(heap, 4097)?;
-        let pending = Vec::with_capacity(heap, 4096)?;
         Ok(ReadStorage {
-            sheet_lines,
-            used,
-            pending,
+            sheet_lines: Vec::with_capacity(heap, 4096)?,
+            used: Vec::with_capacity(heap, 4097)?,
+            pending: Vec::with_capacity(heap, 4096)?,
         })
     }
 }

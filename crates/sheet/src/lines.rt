@@ -21,13 +21,7 @@ fn count_line_ends(bytes: &[u8]) -> usize
 fn is_sized(sheet: &[u8]) -> bool
     ensures { MatchBool result (Sized sheet.now) (Sized sheet.now → ⊥) }
 {
-    if sheet.is_empty() {
-        return false;
-    }
-    if sheet.len() > 65_536 {
-        return false;
-    }
-    count_line_ends(sheet) <= 4_096
+    !sheet.is_empty() && sheet.len() <= 65_536 && count_line_ends(sheet) <= 4_096
 }
 
 impl ReadStorage {

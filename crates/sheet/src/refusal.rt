@@ -52,27 +52,17 @@ impl fmt::Display for Rule {
     ghost output = { λ x. Some (reason x) };
 
     fn fmt<W: fmt::Write>(&self, f: &mut fmt::Formatter<W>) -> fmt::Result {
-        match self {
-            Rule::Form => write!(f, "the line does not follow the form of a sheet"),
-            Rule::Size => write!(
-                f,
-                "the sheet is empty, has more than 65536 bytes, or has more than 4096 line ends"
-            ),
-            Rule::Part => write!(
-                f,
-                "a part is not an earlier line or is already used, or no line uses this one"
-            ),
-            Rule::Unbound => write!(
-                f,
-                "the variable has no binder, or a place outside its binder's pattern"
-            ),
-            Rule::Misused => write!(
-                f,
-                "a variable of this binder is used never or more than once"
-            ),
-            Rule::Shut => write!(f, "a linear variable or a wire stands in a bang"),
-            Rule::Repeated => write!(f, "the wire stands on an earlier line too"),
-        }
+        f.write_str(match self {
+            Rule::Form => "the line does not follow the form of a sheet",
+            Rule::Size =>
+                "the sheet is empty, has more than 65536 bytes, or has more than 4096 line ends",
+            Rule::Part =>
+                "a part is not an earlier line or is already used, or no line uses this one",
+            Rule::Unbound => "the variable has no binder, or a place outside its binder's pattern",
+            Rule::Misused => "a variable of this binder is used never or more than once",
+            Rule::Shut => "a linear variable or a wire stands in a bang",
+            Rule::Repeated => "the wire stands on an earlier line too",
+        })
     }
 }
 
