@@ -60,9 +60,6 @@ module _ (xs : List Role) (lines : List ℕ) (k w : ℕ) where
     below_more (λ n. is_lead w (get_or xs n Other) ≡ true → earlier (Some m) l ≤ get_or lines n 0) k (λ n lo q. omega (arith, f.1 n lo q)) (λ q. omega (arith, e)),
   )
 
-pub blank_firsts : (xs : List Role) (lines : List ℕ) (F : List (Option ℕ)) → Blank F → Firsts xs lines F 0
-blank_firsts xs lines F b w lo = rw (b w lo) (λ n lo h. omega arith)
-
 lead_here : (w v : ℕ) (y : Bool) (x : Role) → x ≡ Lead v y → w ≡ v → is_lead w x ≡ true
 lead_here w v y x e z = ap (is_lead w) e ∙ eq-eqb w v z
 

@@ -10,9 +10,10 @@ ghost use Rattle.checker.specs.Verdict.{Decided, Checked, VerdictIsDetermined};
 use accepted::AcceptedProgram;
 use counts::UseCounts;
 use firsts::FirstLines;
-use rules::{first_line, is_shut, is_unbound};
+use rules::first_line;
 use sheet::program::Program;
 use sheet::refusal::{Refusal, Rule};
+use site::Site;
 use std::alloc::{AllocError, Global};
 use storage::CheckStorage;
 use walk::Walk;
@@ -51,13 +52,13 @@ impl CheckStorage {
         ensures { Judged (roles self.old.walk.sites.items) (site_lines self.old.walk.sites.items) result }
     {
         let sites = self.walk.sites();
-        unbroken(Rule::Unbound, first_line(sites, is_unbound))?;
+        unbroken(Rule::Unbound, first_line(sites, Site::is_unbound))?;
         self.counts.count(sites);
         unbroken(
             Rule::Misused,
             first_line(sites, |site| self.counts.is_misused(site)),
         )?;
-        unbroken(Rule::Shut, first_line(sites, is_shut))?;
+        unbroken(Rule::Shut, first_line(sites, Site::is_shut))?;
         unbroken(Rule::Repeated, self.firsts.first_repeated(sites))
     }
 }
