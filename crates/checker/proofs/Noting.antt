@@ -1,5 +1,5 @@
 -- The smallest line of each wire, noted site by site and wiped again.
-use Rattle.std.proofs.Common.{◌≡◌, ℕ, ◌+◌, ◌<◌, ◌≤◌, Bool, true, false, eqb, ◌≢◌, ◌⊎◌, List, length, get_or, set, Some, None, Option, sym, refl, ap, ◌∙◌, inl, inr, zero-le, arith, length-set, ltb-true, lt-ltb, eq-eqb, ne_eqb, eqb-true, below_more}
+use Rattle.std.proofs.Common.{◌≡◌, ℕ, ◌+◌, ◌<◌, ◌≤◌, Bool, true, false, ◌≢◌, ◌⊎◌, List, length, get_or, set, Some, None, Option, sym, refl, ap, ◌∙◌, inl, inr, zero-le, arith, length-set, ltb-true, lt-ltb, eq-eqb, ne_eqb, eqb-true, below_more}
 use Rattle.std.proofs.lemmas.List.{get_or-set_same, get_or-set_other, length-map}
 use Rattle.std.proofs.lemmas.Bool.{cases_eq, cases_lt}
 use Rattle.checker.specs.declared.role.Role.{Role}

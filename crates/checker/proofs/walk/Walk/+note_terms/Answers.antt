@@ -1,4 +1,4 @@
-use Rattle.std.proofs.Common.{◌≡◌, ℕ, ◌+◌, ◌<◌, length, reverse, take, vec_items, vec_len, sym, refl, ◌∙◌, append-nil, arith}
+use Rattle.std.proofs.Common.{◌≡◌, ℕ, ◌+◌, ◌<◌, length, reverse, take, vec_items, sym, refl, ◌∙◌, append-nil, arith}
 use Rattle.terms.specs.Term.{bang, abs, none, part, size}
 use Rattle.sheet.specs.Located.{lines_in}
 use Rattle.checker.specs.declared.role.Role.TheVariants.{Other, Opening}
