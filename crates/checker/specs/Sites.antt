@@ -6,7 +6,7 @@ use Rattle.terms.specs.Flat.{flats, kind_of}
 use Rattle.terms.specs.Shape.{Shapeds}
 use Rattle.terms.specs.declared.Node.{Node}
 use Rattle.terms.specs.declared.Kind.{Kind}
-use Rattle.terms.specs.declared.Kind.TheVariants.{Variable, Wire, Constant, Gate, New, Bang, Application, Tuple, Binder}
+use Rattle.terms.specs.declared.Kind.TheVariants.{Variable, Wire, Binder}
 use Rattle.checker.specs.declared.role.Frame.{Frame}
 use Rattle.checker.specs.declared.role.Role.{Role}
 use Rattle.checker.specs.declared.role.Role.TheVariants.{Other, Free, Use, Lead, Opening}
@@ -36,13 +36,8 @@ resolve (f ∷ G) c (suc u) p = resolve G c u p
 abbrev pub role_at : Scope → ℕ → ℕ → Kind → Role
 role_at G c n (Variable p u) = resolve G c u p
 role_at G c n (Wire w) = Lead w.number (nat_lt 0 c)
-role_at G c n (Constant x) = Other
-role_at G c n (Gate g) = Other
-role_at G c n New = Other
-role_at G c n Bang = Other
-role_at G c n Application = Other
-role_at G c n (Tuple m) = Other
 role_at G c n (Binder k) = Opening n k
+role_at G c n _ = Other
 
 abbrev pub role_of : Scope → ℕ → ℕ → Term → Role
 role_of G c n t = role_at G c n (kind_of t)

@@ -1,8 +1,7 @@
 //! Where the sites of a program's nodes break a rule.
 ghost use Rattle.std.specs.Prelude.{◌≡◌, Bool, MatchOption};
-ghost use Rattle.std.specs.Fn.{FnReturnsAt};
 ghost use Rattle.checker.specs.declared.site.Site.{Site};
-ghost use Rattle.checker.specs.Found.{least_line};
+ghost use Rattle.checker.specs.Found.{Tells, least_line};
 
 use crate::site::Site;
 use sheet::refusal::{Refusal, Rule};
@@ -10,7 +9,7 @@ use sheet::refusal::{Refusal, Rule};
 /// The smallest line of the sites that break a rule.
 pub(crate) fn first_line<F: Fn(&Site) -> bool>(sites: &[Site], breaks: F) -> Option<u16>
     requires { F.IsAlwaysCallable breaks }
-    ensures { (test : Site → Bool) → ((site : Site) (told : Bool) → FnReturnsAt F.Fn breaks site told → told ≡ test site) → result ≡ least_line test sites.now }
+    ensures { (test : Site → Bool) → Tells F.Fn breaks test → result ≡ least_line test sites.now }
 {
     sites
         .iter()
