@@ -1,12 +1,11 @@
 -- No rule is broken just if the term is accepted.
-use Rattle.std.proofs.Common.{◌≡◌, ℕ, zero, suc, ◌+◌, ◌<◌, ◌≤◌, true, false, ltb, ◌↔◌, List, [], ◌∷◌, ◌++◌, length, get_or, count_by, sym, refl, ap, ◌∙◌, inl, inr, arith, eq-eqb, eqb-true}
+use Rattle.std.proofs.Common.{◌≡◌, ℕ, zero, suc, ◌+◌, ◌<◌, true, false, ltb, ◌↔◌, List, [], ◌∷◌, ◌++◌, length, get_or, count_by, sym, refl, ap, ◌∙◌, inl, inr, arith, eq-eqb, eqb-true}
 use Rattle.std.proofs.lemmas.Bool.{cases_lt, cases_order}
 use Rattle.terms.specs.Term.{Term, var, wire, bit, gate, new, bang, app, tuple, abs, Terms, none, part, size}
 use Rattle.theory.specs.Acceptance.{lead, same, weighs, one, uses, Apart, Accepted}
 use Rattle.theory.proofs.Weigh.{weigh_same, equal_eqb}
 use Rattle.theory.proofs.Tested.{inner-lead, accepted_is_proper}
-use Rattle.checker.specs.declared.role.Role.{Role}
-use Rattle.checker.specs.declared.role.Role.TheVariants.{Other, Free, Use, Lead, Opening}
+use Rattle.checker.specs.declared.role.Role.TheVariants.{Other, Lead, Opening}
 use Rattle.checker.specs.Faults.{Scope, frame, NodeAt, Unbound, Misused, Shut, Repeated, repeated, Nowhere}
 use Rattle.checker.specs.Sites.{resolve, role_of, sites, sitess}
 use Rattle.checker.specs.Roles.{is_lead}

@@ -1,12 +1,12 @@
 -- The smallest line of each wire, noted site by site and wiped again.
-use Rattle.std.proofs.Common.{◌≡◌, ℕ, ◌+◌, ◌<◌, ◌≤◌, Bool, true, false, eqb, ◌≢◌, ◌⊎◌, List, length, get_or, set, Some, None, Option, sym, refl, ap, ◌∙◌, inl, inr, zero-le, arith, length-set, ltb-true, lt-ltb, eq-eqb, ne_eqb, eqb-true, below_more}
+use Rattle.std.proofs.Common.{◌≡◌, ℕ, ◌+◌, ◌<◌, ◌≤◌, Bool, true, false, ◌≢◌, ◌⊎◌, List, length, get_or, set, Some, None, Option, sym, refl, ap, ◌∙◌, inl, inr, arith, length-set, ltb-true, lt-ltb, eq-eqb, ne_eqb, eqb-true, below_more}
 use Rattle.std.proofs.lemmas.List.{get_or-set_same, get_or-set_other, length-map}
 use Rattle.std.proofs.lemmas.Bool.{cases_eq, cases_lt}
 use Rattle.checker.specs.declared.role.Role.{Role}
 use Rattle.checker.specs.declared.role.Role.TheVariants.{Other, Free, Use, Lead, Opening}
 use Rattle.checker.specs.Roles.{Ranged, is_lead}
 use Rattle.checker.specs.Found.{roles, site_lines, Found, least_line}
-use Rattle.checker.specs.Firsts.{RepeatSite, earlier, noted, is_before, repeated_role, Blank, wiped}
+use Rattle.checker.specs.Firsts.{RepeatSite, earlier, noted, is_before, repeated_role, wiped}
 use Rattle.checker.specs.declared.site.Site.{Site}
 use Rattle.checker.proofs.Finding.{Passes, least_found, found_same}
 use Rattle.checker.proofs.Sited.{ranged_at}
@@ -59,9 +59,6 @@ module _ (xs : List Role) (lines : List ℕ) (k w : ℕ) where
     ],
     below_more (λ n. is_lead w (get_or xs n Other) ≡ true → earlier (Some m) l ≤ get_or lines n 0) k (λ n lo q. omega (arith, f.1 n lo q)) (λ q. omega (arith, e)),
   )
-
-pub blank_firsts : (xs : List Role) (lines : List ℕ) (F : List (Option ℕ)) → Blank F → Firsts xs lines F 0
-blank_firsts xs lines F b w lo = rw (b w lo) (λ n lo h. omega arith)
 
 lead_here : (w v : ℕ) (y : Bool) (x : Role) → x ≡ Lead v y → w ≡ v → is_lead w x ≡ true
 lead_here w v y x e z = ap (is_lead w) e ∙ eq-eqb w v z
@@ -123,18 +120,7 @@ repeats_found xs F room f =
     (λ n lo p. repeated_shown (roles xs) (site_lines xs) F n room g (get_or (roles xs) n Other) refl (ranged_at xs n) p)
     (least_found (repeated_role F) xs)
 
--- Wiping.
-pub wiped_start : (xs : List Role) (lines : List ℕ) (F : List (Option ℕ)) → Firsts xs lines F (length xs) → Wiped xs F 0
-wiped_start xs lines F f w lo = go (get_or F w None) (f w lo)
-  where
-    go : (o : Option ℕ) → FirstLine xs lines (length xs) w o → (o ≡ None) ⊎ StandsFrom xs 0 w
-    go None g = inl refl
-    go (Some l) g = inr (record { node = g.0.node; from = zero-le; low = g.0.low; here = g.0.here })
-
-pub wiped-end : (xs : List Role) (F : List (Option ℕ)) → Wiped xs F (length xs) → Blank F
-wiped-end xs F h w lo = elim (h w lo) [ inl e ↦ e | inr s ↦ absurd (omega (arith, s.from, s.low)) ]
-
--- A site that does not have the wire.
+-- Wiping: a site that does not have the wire.
 later_stands : (xs : List Role) (k w : ℕ) → is_lead w (get_or xs k Other) ≡ false → StandsFrom xs k w → StandsFrom xs (k + 1) w
 later_stands xs k w z s = record { node = s.node; from = past (cases_eq s.node k); low = s.low; here = s.here }
   where

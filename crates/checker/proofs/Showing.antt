@@ -1,5 +1,5 @@
 -- The sites show the faults of variables, and of what stands in a bang.
-use Rattle.std.proofs.Common.{◌≡◌, ℕ, zero, suc, ◌<◌, Bool, true, false, cond, [], ◌∷◌, get_or, sym, refl, ap, ◌∙◌, inl, inr, zero-le, arith, ltb-true, lt-ltb, le-leb, leb-true}
+use Rattle.std.proofs.Common.{◌≡◌, ℕ, zero, suc, ◌<◌, true, [], ◌∷◌, get_or, sym, refl, ap, ◌∙◌, inl, inr, zero-le, arith, ltb-true, lt-ltb, le-leb, leb-true}
 use native.Mathlib.Nat.{sub-zero}
 use Rattle.std.proofs.lemmas.Bool.{cases_lt, and_parts}
 use Rattle.terms.specs.Term.{Term, var, wire, bit, gate, new, bang, app, tuple, abs, size}

@@ -1,5 +1,5 @@
 -- The uses of a binder's variables, counted over the sites.
-use Rattle.std.proofs.Common.{◌≡◌, ℕ, zero, suc, ◌+◌, ◌<◌, ◌≤◌, Bool, false, ◌&&◌, eqb, ◌⊎◌, List, [], ◌∷◌, ◌++◌, count_by, sym, refl, ap, ◌∙◌, inl, inr, arith, eq-eqb, ne_eqb}
+use Rattle.std.proofs.Common.{◌≡◌, ℕ, zero, suc, ◌+◌, ◌<◌, ◌≤◌, Bool, false, ◌&&◌, eqb, ◌⊎◌, [], ◌∷◌, ◌++◌, count_by, sym, refl, ap, ◌∙◌, inl, inr, arith, eq-eqb, ne_eqb}
 use Rattle.terms.specs.Term.{Term, var, wire, bit, gate, new, bang, app, tuple, abs, Terms, none, part, size, sizes}
 use Rattle.theory.specs.Acceptance.{Item, slot, lead, same, inner, weigh, weighs, one, uses}
 use Rattle.theory.proofs.Weigh.{weigh_same, weigh-zero, equal_eqb}

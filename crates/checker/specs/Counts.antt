@@ -2,7 +2,7 @@
 use Rattle.std.specs.Prelude.{◌≡◌, ℕ, ◌+◌, ◌<◌, Bool, false, not, List, [], length, take, replicate, count_by, ◌==◌, ◌≢◌, slice_index, slice_index_or, slice_set}
 use Rattle.std.specs.List.{list_any}
 use Rattle.checker.specs.declared.role.Role.{Role}
-use Rattle.checker.specs.declared.role.Role.TheVariants.{Other, Free, Use, Lead, Opening}
+use Rattle.checker.specs.declared.role.Role.TheVariants.{Other, Use, Opening}
 use Rattle.checker.specs.Roles.{is_use}
 
 -- The site n is a binder that has a linear variable that is not used once.
@@ -16,11 +16,9 @@ pub record MisuseSite (xs : List Role) (n : ℕ) : Type 0 where
 
 -- The role speaks of the binder m.
 abbrev pub Names : ℕ → Role → Type 0
-Names m Other = ⊥
-Names m Free = ⊥
 Names m (Use n k p x) = m ≡ n
-Names m (Lead w x) = ⊥
 Names m (Opening n k) = m ≡ n
+Names m _ = ⊥
 
 -- The row has, for each of the eight places of the binder m, its uses among the sites xs.
 pub record Uses (xs : List Role) (m : ℕ) (row : List ℕ) : Type 0 where
@@ -34,36 +32,27 @@ Counts seen xs C k = (n m : ℕ) → n < k → Names m (slice_index_or xs n Othe
 abbrev pub Counted : List Role → List (List ℕ) → Type 0
 Counted xs C = Counts xs xs C (length xs)
 
-abbrev pub cleared : Role → List (List ℕ) → List (List ℕ)
-cleared Other C = C
-cleared Free C = C
-cleared (Use m k p x) C = slice_set C m (replicate 8 0)
-cleared (Lead w x) C = C
-cleared (Opening m k) C = slice_set C m (replicate 8 0)
-
 -- How often the place p of the binder m was counted.
 abbrev pub count_of : List (List ℕ) → ℕ → ℕ → ℕ
 count_of C m p = slice_index (slice_index_or C m []) p
 
+-- The counts without those of the binder that the role names.
+abbrev pub cleared : Role → List (List ℕ) → List (List ℕ)
+cleared (Use m k p x) C = slice_set C m (replicate 8 0)
+cleared (Opening m k) C = slice_set C m (replicate 8 0)
+cleared _ C = C
+
+-- The counts with one use more.
 abbrev pub counted_in : Role → List (List ℕ) → List (List ℕ)
-counted_in Other C = C
-counted_in Free C = C
 counted_in (Use m k p x) C = slice_set C m (slice_set (slice_index_or C m []) p (count_of C m p + 1))
-counted_in (Lead w x) C = C
-counted_in (Opening m k) C = C
+counted_in _ C = C
 
 -- There is room to count the role.
 abbrev pub Countable : List (List ℕ) → Role → Type 0
-Countable C Other = Unit {0}
-Countable C Free = Unit {0}
 Countable C (Use m k p x) = count_of C m p < 65535
-Countable C (Lead w x) = Unit {0}
-Countable C (Opening m k) = Unit {0}
+Countable C _ = Unit {0}
 
 -- Whether one of the binder's variables was not counted once.
 abbrev pub misused_role : List (List ℕ) → Role → Bool
-misused_role C Other = false
-misused_role C Free = false
-misused_role C (Use m k p x) = false
-misused_role C (Lead w x) = false
 misused_role C (Opening m k) = list_any (λ u. not (u == 1)) (take k (slice_index_or C m []))
+misused_role C _ = false

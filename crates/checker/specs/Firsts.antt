@@ -1,7 +1,7 @@
 -- The first line of each wire.
 use Rattle.std.specs.Prelude.{◌≡◌, ℕ, ◌<◌, min, Bool, true, false, List, length, Some, None, Option, nat_lt, slice_index, slice_index_or, slice_set}
 use Rattle.checker.specs.declared.role.Role.{Role}
-use Rattle.checker.specs.declared.role.Role.TheVariants.{Other, Free, Use, Lead, Opening}
+use Rattle.checker.specs.declared.role.Role.TheVariants.{Other, Lead}
 use Rattle.checker.specs.Roles.{is_lead}
 
 -- The site n has a wire that another site has on an earlier line.
@@ -18,32 +18,25 @@ abbrev pub earlier : Option ℕ → ℕ → ℕ
 earlier None line = line
 earlier (Some l) line = min l line
 
--- The noted lines after a site of this role on the line; whether its wire has an earlier one; and the lines without its wire's.
+-- What is noted after a site of this role on the line.
 abbrev pub noted : Role → ℕ → List (Option ℕ) → List (Option ℕ)
-noted Other line F = F
-noted Free line F = F
-noted (Use m k p x) line F = F
 noted (Lead w x) line F = slice_set F w (Some (earlier (slice_index_or F w None) line))
-noted (Opening m k) line F = F
+noted _ line F = F
 
+-- Whether an earlier line is noted.
 abbrev pub is_before : Option ℕ → ℕ → Bool
 is_before None line = false
 is_before (Some l) line = nat_lt l line
 
 abbrev pub repeated_role : List (Option ℕ) → Role → ℕ → Bool
-repeated_role F Other line = false
-repeated_role F Free line = false
-repeated_role F (Use m k p x) line = false
 repeated_role F (Lead w x) line = is_before (slice_index_or F w None) line
-repeated_role F (Opening m k) line = false
+repeated_role F _ line = false
 
 -- No wire has a line.
 abbrev pub Blank : List (Option ℕ) → Type 0
 Blank F = (w : ℕ) → w < length F → slice_index_or F w None ≡ None
 
+-- What is noted without the wire of this role.
 abbrev pub wiped : Role → List (Option ℕ) → List (Option ℕ)
-wiped Other F = F
-wiped Free F = F
-wiped (Use m k p x) F = F
 wiped (Lead w x) F = slice_set F w None
-wiped (Opening m k) F = F
+wiped _ F = F

@@ -1,6 +1,8 @@
 -- The smallest line of the sites that break a rule.
 use Rattle.std.specs.Prelude.{◌≡◌, ℕ, ◌<◌, ◌≤◌, min, Bool, true, List, length, map, filter, Some, None, Option, slice_index, slice_index_or}
 use Rattle.std.specs.List.{reduce}
+use Rattle.std.specs.Fn.{Shared, FnReturnsAt}
+use Rattle.std.specs.Borrow.{Bor}
 use Rattle.checker.specs.declared.role.Role.{Role}
 use Rattle.checker.specs.declared.role.Role.TheVariants.{Other}
 use Rattle.checker.specs.declared.site.Site.{Site}
@@ -11,6 +13,10 @@ roles xs = map (λ x. x.role) xs
 
 abbrev pub site_lines : List Site → List ℕ
 site_lines xs = map (λ x. x.line) xs
+
+-- f answers at each site what the test says.
+abbrev pub Tells : {F : Type 0} → Shared F (Bor Site × Unit {0}) Bool → F → (Site → Bool) → Type 0
+Tells g f test = (x : Site) (told : Bool) → FnReturnsAt g f x told → told ≡ test x
 
 -- The smallest line of the sites that pass the test.
 abbrev pub least_line : (Site → Bool) → List Site → Option ℕ

@@ -7,11 +7,10 @@ use Rattle.checker.specs.declared.role.Role.TheVariants.{Other, Free, Use, Lead,
 
 -- A binder's number and a wire's are below 4,096, a place is below 8, and a pattern at most 8.
 abbrev pub Ranged : Role → Type 0
-Ranged Other = Unit {0}
-Ranged Free = Unit {0}
 Ranged (Use m k p x) = (m < 4096) × (p < 8)
 Ranged (Lead w x) = w < 4096
 Ranged (Opening m k) = (m < 4096) × (k ≤ 8)
+Ranged _ = Unit {0}
 
 pub Ranged-prop : (r : Role) → IsProp (Ranged r)
 Ranged-prop Other = Unit-prop
@@ -22,31 +21,21 @@ Ranged-prop (Opening m k) = ×_prop le_prop le_prop
 
 -- Whether the role breaks a rule.
 abbrev pub unbound_role : Role → Bool
-unbound_role Other = false
 unbound_role Free = true
 unbound_role (Use m k p x) = nat_le (arity k) p
-unbound_role (Lead w x) = false
-unbound_role (Opening m k) = false
+unbound_role _ = false
 
 abbrev pub shut_role : Role → Bool
-shut_role Other = false
-shut_role Free = false
 shut_role (Use m k p x) = x && nat_lt p k
 shut_role (Lead w x) = x
-shut_role (Opening m k) = false
+shut_role _ = false
 
 -- Whether it is the wire k.
 abbrev pub is_lead : ℕ → Role → Bool
-is_lead k Other = false
-is_lead k Free = false
-is_lead k (Use m j p x) = false
 is_lead k (Lead w x) = k == w
-is_lead k (Opening m j) = false
+is_lead k _ = false
 
 -- Whether it is the variable p of the binder m.
 abbrev pub is_use : ℕ → ℕ → Role → Bool
-is_use m p Other = false
-is_use m p Free = false
 is_use m p (Use n k q x) = m == n && p == q
-is_use m p (Lead w x) = false
-is_use m p (Opening n k) = false
+is_use m p _ = false

@@ -2,11 +2,11 @@
 use Rattle.std.specs.Prelude.{◌≡◌, ℕ, zero, suc, ◌+◌, List, [], ◌∷◌, ◌++◌, length, drop, vec_items, vec_len, Vec, nat_lt}
 use Rattle.std.specs.declared.alloc.Global.{Global}
 use Rattle.terms.specs.Term.{Term, var, wire, bit, gate, new, bang, app, tuple, abs, Terms, none, part, count, size}
-use Rattle.terms.specs.Flat.{flats}
+use Rattle.terms.specs.Flat.{flats, kind_of}
 use Rattle.terms.specs.Shape.{Shapeds}
 use Rattle.terms.specs.declared.Node.{Node}
 use Rattle.terms.specs.declared.Kind.{Kind}
-use Rattle.terms.specs.declared.Kind.TheVariants.{Variable, Wire, Constant, Gate, New, Bang, Application, Tuple, Binder}
+use Rattle.terms.specs.declared.Kind.TheVariants.{Variable, Wire, Binder}
 use Rattle.checker.specs.declared.role.Frame.{Frame}
 use Rattle.checker.specs.declared.role.Role.{Role}
 use Rattle.checker.specs.declared.role.Role.TheVariants.{Other, Free, Use, Lead, Opening}
@@ -32,28 +32,15 @@ resolve [] c u p = Free
 resolve (f ∷ G) c zero p = Use f.number f.pattern p (nat_lt f.depth c)
 resolve (f ∷ G) c (suc u) p = resolve G c u p
 
--- The role of the node n there, as a subterm, and by its kind.
-abbrev pub role_of : Scope → ℕ → ℕ → Term → Role
-role_of G c n (var u p) = resolve G c u p
-role_of G c n (wire w) = Lead w (nat_lt 0 c)
-role_of G c n (bit x) = Other
-role_of G c n (gate g) = Other
-role_of G c n (new t) = Other
-role_of G c n (bang t) = Other
-role_of G c n (app f a) = Other
-role_of G c n (tuple ts) = Other
-role_of G c n (abs k t) = Opening n k
-
+-- The role of the node n there, by its kind, and as a subterm.
 abbrev pub role_at : Scope → ℕ → ℕ → Kind → Role
 role_at G c n (Variable p u) = resolve G c u p
 role_at G c n (Wire w) = Lead w.number (nat_lt 0 c)
-role_at G c n (Constant x) = Other
-role_at G c n (Gate g) = Other
-role_at G c n New = Other
-role_at G c n Bang = Other
-role_at G c n Application = Other
-role_at G c n (Tuple m) = Other
 role_at G c n (Binder k) = Opening n k
+role_at G c n _ = Other
+
+abbrev pub role_of : Scope → ℕ → ℕ → Term → Role
+role_of G c n t = role_at G c n (kind_of t)
 
 abbrev mutual
   pub sites : Scope → ℕ → ℕ → Term → List Role

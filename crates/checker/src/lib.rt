@@ -1,7 +1,7 @@
 //! Checking a program against the rules of derivation.
 #![tactic(auto)]
 
-ghost use Rattle.std.specs.Prelude.{◌≡◌, IfOk, MatchOption};
+ghost use Rattle.std.specs.Prelude.{IfOk};
 ghost use Rattle.sheet.specs.Reading.{HoldsZero};
 ghost use Rattle.checker.specs.Found.{roles, site_lines};
 ghost use Rattle.checker.specs.Judged.{Judged};
@@ -10,9 +10,10 @@ ghost use Rattle.checker.specs.Verdict.{Decided, Checked, VerdictIsDetermined};
 use accepted::AcceptedProgram;
 use counts::UseCounts;
 use firsts::FirstLines;
-use rules::{first_line, is_shut, is_unbound};
+use rules::{first_line, unbroken};
 use sheet::program::Program;
 use sheet::refusal::{Refusal, Rule};
+use site::Site;
 use std::alloc::{AllocError, Global};
 use storage::CheckStorage;
 use walk::Walk;
@@ -51,22 +52,15 @@ impl CheckStorage {
         ensures { Judged (roles self.old.walk.sites.items) (site_lines self.old.walk.sites.items) result }
     {
         let sites = self.walk.sites();
-        unbroken(Rule::Unbound, first_line(sites, is_unbound))?;
+        unbroken(Rule::Unbound, first_line(sites, Site::is_unbound))?;
         self.counts.count(sites);
         unbroken(
             Rule::Misused,
             first_line(sites, |site| self.counts.is_misused(site)),
         )?;
-        unbroken(Rule::Shut, first_line(sites, is_shut))?;
+        unbroken(Rule::Shut, first_line(sites, Site::is_shut))?;
         unbroken(Rule::Repeated, self.firsts.first_repeated(sites))
     }
-}
-
-// The refusal at the smallest line that breaks the rule, if there is one.
-fn unbroken(rule: Rule, line: Option<u16>) -> Result<(), Refusal>
-    ensures { MatchOption line (result ≡ Ok tt) (λ l. result ≡ Err (record { rule = rule; line = l })) }
-{
-    line.map_or(Ok(()), |line| Err(Refusal { rule, line }))
 }
 
 // The verdict on a program.

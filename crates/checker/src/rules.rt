@@ -1,18 +1,15 @@
-//! The rules, each told from the sites of a program's nodes.
-ghost use Rattle.std.specs.Prelude.{◌≡◌, Bool, map};
-ghost use Rattle.std.specs.Fn.{FnReturnsAt};
-ghost use Rattle.theory.specs.Acceptance.{arity};
+//! Where the sites of a program's nodes break a rule.
+ghost use Rattle.std.specs.Prelude.{◌≡◌, Bool, MatchOption};
 ghost use Rattle.checker.specs.declared.site.Site.{Site};
-ghost use Rattle.checker.specs.Roles.{unbound_role, shut_role};
-ghost use Rattle.checker.specs.Found.{least_line};
+ghost use Rattle.checker.specs.Found.{Tells, least_line};
 
-use crate::role::Role;
 use crate::site::Site;
+use sheet::refusal::{Refusal, Rule};
 
 /// The smallest line of the sites that break a rule.
 pub(crate) fn first_line<F: Fn(&Site) -> bool>(sites: &[Site], breaks: F) -> Option<u16>
     requires { F.IsAlwaysCallable breaks }
-    ensures { (test : Site → Bool) → ((site : Site) (told : Bool) → FnReturnsAt F.Fn breaks site told → told ≡ test site) → result ≡ least_line test sites.now }
+    ensures { (test : Site → Bool) → Tells F.Fn breaks test → result ≡ least_line test sites.now }
 {
     sites
         .iter()
@@ -26,29 +23,9 @@ pub(crate) fn first_line<F: Fn(&Site) -> bool>(sites: &[Site], breaks: F) -> Opt
         .min()
 }
 
-/// Whether the site is a variable with no binder, or with a place outside its binder's pattern.
-pub(crate) fn is_unbound(site: &Site) -> bool
-    ensures { result ≡ unbound_role site.now.role }
+/// The refusal at the smallest line that breaks the rule, if there is one.
+pub(crate) fn unbroken(rule: Rule, line: Option<u16>) -> Result<(), Refusal>
+    ensures { MatchOption line (result ≡ Ok tt) (λ l. result ≡ Err (record { rule = rule; line = l })) }
 {
-    match site.role {
-        Role::Free => true,
-        Role::Use { pattern, place, .. } => pattern.max(1) <= place,
-        _ => false,
-    }
-}
-
-/// Whether the site is a linear variable or a wire that stands in a bang.
-pub(crate) fn is_shut(site: &Site) -> bool
-    ensures { result ≡ shut_role site.now.role }
-{
-    match site.role {
-        Role::Use {
-            pattern,
-            place,
-            banged,
-            ..
-        } => banged && place < pattern,
-        Role::Lead { banged, .. } => banged,
-        _ => false,
-    }
+    line.map_or(Ok(()), |line| Err(Refusal { rule, line }))
 }

@@ -45,8 +45,8 @@ impl Walk {
         ensures { result ≡ resolve (reverse self.now.frames.items) bangs up place }
     {
         match self.frames.len().checked_sub(up as usize + 1) {
-            Some(nearest) => {
-                let frame = self.frames[nearest];
+            Some(index) => {
+                let frame = self.frames[index];
                 Role::Use {
                     binder: frame.number,
                     pattern: frame.pattern,
@@ -77,7 +77,7 @@ impl Walk {
     }
 
     // Notes the sites of the `pending` terms that stand from `at` on, within `bangs` bangs. Answers the number after
-    // their last node.
+    // their last node. It calls itself, since only the terms show where the body of a bang or a binder ends.
     fn note_terms(&mut self, table: &[LocatedNode], at: usize, pending: usize, bangs: u16) -> usize
         requires small { length table.now ≤ 4096 }
         requires stand { Stand (nodes_in table.now) at pending }

@@ -3,11 +3,8 @@ use Rattle.checker.specs.declared.site.Site.{Site}
 use Rattle.checker.specs.Found.{roles, site_lines}
 use Rattle.checker.specs.Firsts.{repeated_role}
 use Rattle.checker.proofs.Sited.{role_is, line_is}
-use Rattle.checker.proofs.Noting.{Firsts, Wiped, blank_firsts, noted_more, repeats_found, wiped_more}
+use Rattle.checker.proofs.Noting.{Firsts, Wiped, noted_more, repeats_found, wiped_more}
 use Rattle.checker.proofs.firsts.FirstLines.first_repeated.Goals as goal
-
-pub loop-site-init : goal.loop-site-init
-loop-site-init c = blank_firsts (roles c.args.sites.now) (site_lines c.args.sites.now) (vec_items c.args.self.now.lines) c.requires.blank
 
 pub loop-site-preserved : goal.loop-site-preserved
 loop-site-preserved c =

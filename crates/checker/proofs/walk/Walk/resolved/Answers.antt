@@ -8,7 +8,7 @@ returns-in-Some c =
     let xs = c.args.self.now.frames.items in
     let l : c.len.result ≡ length xs = omega (arith, c.len.ensures, c.args.self.now.frames.ok.0) in
     let e = c.in-Some.ensures in
-    let k : c.in-Some.nearest ≡ length xs - 1 - c.args.up = omega (arith, e.1, l) in
+    let k : c.in-Some.index ≡ length xs - 1 - c.args.up = omega (arith, e.1, l) in
     sym (resolve_stack xs (length xs) c.args.bangs c.args.up c.args.place c.index-frame.result.now refl (omega (arith, e.0, l)) (rw (← k) c.index-frame.ensures))
 
 pub returns-in-None : goal.returns-in-None
