@@ -9,7 +9,7 @@ use Rattle.sheet.specs.Entries.{entry, Parses}
 use Rattle.sheet.specs.declared.line.Line.{Line}
 use Rattle.sheet.specs.Sheet.{text, times, Sized, used, Earlier, Begins, Malformed, Misplaced, Unused, Says}
 use Rattle.sheet.specs.Uses.{Fits, LeastUnused}
-use Rattle.sheet.proofs.Cutting.{Ending, ended, unended, Piece}
+use Rattle.sheet.specs.Reader.{Ending, ended, unended, Piece}
 use Rattle.sheet.proofs.Times.{times-append}
 use Rattle.sheet.proofs.Unbroken.{written_unbroken}
 use Rattle.sheet.proofs.Uncut.{first_cut}

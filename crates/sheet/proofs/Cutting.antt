@@ -1,8 +1,8 @@
 -- What an iterator cuts off a text at the next stop.
 use denote.Param.Members.{Mut}
-use Rattle.std.proofs.Common.{◌≡◌, ℕ, zero, suc, ◌+◌, ◌<◌, min, Bool, true, false, cond, eqb, List, [], ◌∷◌, ◌++◌, length, get_or, take, Some, Option, MatchOption, MatchBool, sym, refl, ap, ◌∙◌, subst, inl, inr, arith, append-nil, length-append}
+use Rattle.std.proofs.Common.{◌≡◌, ℕ, zero, suc, ◌+◌, ◌<◌, min, Bool, true, false, cond, eqb, List, [], ◌∷◌, ◌++◌, length, get_or, take, drop, Some, Option, MatchOption, MatchBool, sym, refl, ap, ◌∙◌, subst, inl, inr, arith, append-nil, length-append, drop-drop}
 use Rattle.std.proofs.lemmas.Bool.{eqb-true, eqb-false, cases_lt}
-use Rattle.std.proofs.lemmas.List.{take_all, take_at, take_more, get_or_at, nil_from_length}
+use Rattle.std.proofs.lemmas.List.{drop_at, take_all, take_at, take_more, get_or_at, nil_from_length}
 use Rattle.std.specs.Borrow.{Bor}
 use Rattle.std.specs.Fn.{CalledAt, ComputesKey, ReturnsEach}
 use Rattle.std.specs.List.{AllWithin, IsFirstMatchOrLen}
@@ -11,6 +11,7 @@ use Rattle.std.specs.declared.slice.Split.{Split}
 use Rattle.std.specs.declared.slice.SplitInclusive.{SplitInclusive}
 use Rattle.sheet.proofs.Times.{times_other}
 use Rattle.sheet.proofs.Uncut.{Tail, end, more}
+use Rattle.sheet.specs.Reader.{Ending, ended, unended, Piece}
 use Rattle.sheet.specs.Sheet.{times}
 
 -- The closure, which captures nothing, tests a byte for the stop.
@@ -60,16 +61,6 @@ next_field g h s t f w =
     let m = (w.2 (λ x. eqb x 9) (computes 9 g h (split_callee s))).1 in
     subst (λ (d : Bool). Field (cond d [] (9 ∷ split_rest s)) f.now (fields_left t)) (sym w.0) (field_from (split_rest s) f.now (split_rest t) (split_done t) w.1 m)
 
--- A line feed ends the line, or no line feed is left and the text ends with it.
-pub data Ending (l rest : List ℕ) : Type 0 where
-  ended : (m : List ℕ) → l ≡ m ++ (10 ∷ []) → times 10 m ≡ 0 → Ending l rest
-  unended : times 10 l ≡ 0 → rest ≡ [] → 0 < length l → Ending l rest
-
--- The line l comes first, with the line feed that ends it, and then the rest.
-pub record Piece (text l rest : List ℕ) : Type 0 where
-  pub cut : text ≡ l ++ rest
-  pub ending : Ending l rest
-
 piece_from : (bs l rest : List ℕ) (i : ℕ) → bs ≡ l ++ rest → length l ≡ min (i + 1) (length bs) → IsFirstMatchOrLen (λ x. eqb x 10) bs i → 0 < length bs → Piece bs l rest
 piece_from bs l rest i e n m o = elim (cases_lt i (length bs)) [
   | inl low ↦
@@ -90,3 +81,9 @@ inclusive_steps g s r t = MatchOption r ((length (split_inclusive_rest s) ≡ 0)
 pub next_line : (g : Mut (Unit {0}) (Bor ℕ × Unit {0}) Bool) → TestsFor 10 g → (s t : SplitInclusive ℕ (Unit {0})) (l : Bor (List ℕ)) → inclusive_steps g s (Some l) t → Piece (split_inclusive_rest s) l.now (split_inclusive_rest t)
 next_line g h s t l w =
     piece_from (split_inclusive_rest s) l.now (split_inclusive_rest t) w.1.0 w.0 w.1.1 (w.1.2 (λ x. eqb x 10) (computes 10 g h (split_inclusive_callee s))).1 w.2
+
+-- What is cut off at the place i.
+pub piece_at : (bs : List ℕ) (i : ℕ) (all l rest : List ℕ) → all ≡ drop i bs → Piece all l rest → Piece (drop i bs) l (drop (i + length l) bs)
+piece_at bs i all l rest e p =
+    let r : drop (i + length l) bs ≡ rest = sym (drop-drop (length l) i bs) ∙ ap (drop (length l)) (sym e ∙ p.cut) ∙ drop_at l rest (length l) refl in
+    record { cut = sym e ∙ p.cut ∙ ap (λ x. l ++ x) (sym r); ending = subst (λ x. Ending l x) (sym r) p.ending }

@@ -9,3 +9,4 @@ pub mod Reading
 pub mod Tables
 pub mod Uses
 pub mod Lines
+pub mod Reader

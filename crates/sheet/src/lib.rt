@@ -16,6 +16,7 @@ mod lines;
 pub mod located;
 mod parse;
 pub mod program;
+mod reader;
 pub mod refusal;
 pub mod storage;
 mod table;

@@ -6,6 +6,7 @@ ghost use Rattle.sheet.specs.Lines.{Lined};
 ghost use Rattle.std.specs.Prelude.{◌≡◌};
 
 use crate::parse::line_of;
+use crate::reader::Reader;
 use crate::refusal::{Refusal, Rule};
 use crate::storage::ReadStorage;
 use crate::uses::{first_unused, mark};
@@ -35,13 +36,13 @@ impl ReadStorage {
         self.sheet_lines.clear();
         self.used.clear();
         self.used.push_reserved(false);
-        for (i, text) in sheet.split_inclusive(|b| *b == b'\n').enumerate() {
-            let number = i as u16 + 1;
+        for (number, text) in Reader::new(sheet) {
+            let at = number as u16;
             let Some(line) = text.strip_suffix(b"\n").and_then(line_of) else {
-                return Err(Rule::Form.at(number));
+                return Err(Rule::Form.at(at));
             };
             if !mark(line.parts.as_slice(), &mut self.used) {
-                return Err(Rule::Part.at(number));
+                return Err(Rule::Part.at(at));
             }
             self.sheet_lines.push_reserved(line);
             self.used.push_reserved(false);

@@ -12,16 +12,21 @@ fn digits(bytes: &[u8]) -> Option<u16>
     ensures { result ≡ digits_from 0 bytes.now }
 {
     let mut n = 0;
-    for d in bytes {
-        if !d.is_ascii_digit() {
-            return None;
-        }
-        n = n * 10 + (*d - b'0') as u16;
-        if n > 4096 {
-            return None;
+    let mut rest = bytes;
+    // No `for`: the bytes of a field are taken apart as first byte and rest, by slice patterns with guards.
+    loop {
+        match rest {
+            [] => return Some(n),
+            [d, after @ ..] if d.is_ascii_digit() => {
+                n = n * 10 + (*d - b'0') as u16;
+                if n > 4096 {
+                    return None;
+                }
+                rest = after;
+            }
+            _ => return None,
         }
     }
-    Some(n)
 }
 
 /// The number that `bytes` write in base ten with no sign and no leading zero, if it is at most 4,096.
