@@ -1,7 +1,6 @@
 //! Only a program that was checked gets into the lawful place.
 #![tactic(auto)]
 
-use anyhow::anyhow;
 use checker::accepted::AcceptedProgram;
 use checker::check;
 use checker::storage::CheckStorage;
@@ -18,12 +17,8 @@ fn main(rt: HostRuntime) -> anyhow::Result<()> {
     let mut check_storage = CheckStorage::new(heap)?;
     let mut program = Program::new(heap)?;
     let mut accepted = AcceptedProgram::new(heap)?;
-    if read(SHEET, &mut read_storage, &mut program).is_err() {
-        return Err(anyhow!("the sheet cannot be read"));
-    }
-    if check(&mut program, &mut check_storage, &mut accepted).is_err() {
-        return Err(anyhow!("the program is not accepted"));
-    }
+    read(SHEET, &mut read_storage, &mut program)?;
+    check(&mut program, &mut check_storage, &mut accepted)?;
     let nodes = accepted.program.table().len();
     println!(rt; "accepted: {nodes} nodes")?;
     Ok(())

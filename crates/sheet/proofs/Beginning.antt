@@ -1,9 +1,15 @@
 -- A sheet read line by line.
-use Rattle.std.proofs.Common.{◌≡◌, ℕ, suc, ◌+◌, ◌<◌, ◌≤◌, List, [], ◌∷◌, ◌++◌, length, sym, refl, ap, ◌∙◌, subst, append_assoc, append-nil, arith, length-append}
+use Rattle.std.proofs.Common.{◌≡◌, ℕ, suc, ◌+◌, ◌-◌, ◌<◌, ◌≤◌, true, false, eqb, List, [], ◌∷◌, ◌++◌, length, take, drop, Some, None, Option, MatchOption, sym, refl, ap, ◌∙◌, subst, append_assoc, append-nil, arith, length-append}
+use Rattle.std.proofs.lemmas.Bool.{both_ways, and_parts, eqb-true}
+use Rattle.std.proofs.lemmas.List.{append_cancel_right, drop_at, length_push, take-append-drop}
+use Rattle.std.specs.Borrow.{Bor}
+use lib.Pointwise.{pointwise}
 use Rattle.sheet.specs.Entry.{Entry, written, Each, Proper}
+use Rattle.sheet.specs.Entries.{entry, Parses}
+use Rattle.sheet.specs.declared.line.Line.{Line}
 use Rattle.sheet.specs.Sheet.{text, times, Sized, used, Earlier, Begins, Malformed, Misplaced, Unused, Says}
-use Rattle.sheet.specs.Split.{Cut, Step, Stop}
 use Rattle.sheet.specs.Uses.{Fits, LeastUnused}
+use Rattle.sheet.proofs.Cutting.{Ending, ended, unended, Piece}
 use Rattle.sheet.proofs.Times.{times-append}
 use Rattle.sheet.proofs.Unbroken.{written_unbroken}
 use Rattle.sheet.proofs.Uncut.{first_cut}
@@ -33,11 +39,11 @@ pub begins : (bs : List ℕ) → Sized bs → Begins bs [] bs
 begins bs s = record { sized = s; begin = refl; proper = tt; placed = record { earlier = tt; once = λ p. omega arith } }
 
 -- One line more, whose parts fit.
-pub goes_on : (bs : List ℕ) (es : List Entry) (rest l rest' : List ℕ) (e : Entry) → Begins bs es rest → Cut 10 rest l rest' → l ≡ written e → Proper e → Fits (length es + 1) (used es) e.1 → Begins bs (es ++ (e ∷ [])) rest'
-goes_on bs es rest l rest' e b d w p f = record {
+pub goes_on : (bs : List ℕ) (es : List Entry) (rest rest' : List ℕ) (e : Entry) → Begins bs es rest → rest ≡ written e ++ (10 ∷ rest') → Proper e → Fits (length es + 1) (used es) e.1 → Begins bs (es ++ (e ∷ [])) rest'
+goes_on bs es rest rest' e b d p f = record {
   sized = b.sized;
   begin =
-      b.begin ∙ ap (λ xs. text es ++ xs) (d.text ∙ ap (λ xs. xs ++ (10 ∷ rest')) w)
+      b.begin ∙ ap (λ xs. text es ++ xs) d
       ∙ ap (λ xs. text es ++ xs) (sym (append_assoc (written e) (10 ∷ []) rest'))
       ∙ sym (append_assoc (text es) (written e ++ (10 ∷ [])) rest')
       ∙ ap (λ xs. xs ++ rest') (sym (text-append es (e ∷ [])));
@@ -48,43 +54,75 @@ goes_on bs es rest l rest' e b d w p f = record {
   };
 }
 
--- The next line follows no form, or none ends it.
-pub malformed : (bs : List ℕ) (es : List Entry) (rest l rest' : List ℕ) (n : ℕ) → Begins bs es rest → Cut 10 rest l rest' → ((e : Entry) → Proper e → l ≡ written e → ⊥) → n ≡ length es + 1 → Malformed bs n
+-- What comes next is no line that an entry writes and a line feed ends.
+pub malformed : (bs : List ℕ) (es : List Entry) (rest l rest' : List ℕ) (n : ℕ) → Begins bs es rest → Piece rest l rest' → ((e : Entry) → Proper e → l ≡ written e ++ (10 ∷ []) → ⊥) → n ≡ length es + 1 → Malformed bs n
 malformed bs es rest l rest' n b d h k = record {
   before = es;
   rest = rest;
   begins = b;
-  some = omega (arith, ap length d.text, length-append l (10 ∷ rest'));
-  unwritten = λ e more p q. h e p (first_cut l (written e) rest' more d.whole (written_unbroken e p) (sym d.text ∙ q)).0;
+  some = piece_some d.ending;
+  unwritten = unwritten d.ending;
   number = k;
 }
+  where
+    piece_some : Ending l rest' → 0 < length rest
+    piece_some (ended m e z) = omega (arith, ap length d.cut, length-append l rest', ap length e, length-append m (10 ∷ []))
+    piece_some (unended z e o) = omega (arith, ap length d.cut, length-append l rest')
 
-pub unended : (bs : List ℕ) (es : List Entry) (rest : List ℕ) (n : ℕ) → Begins bs es rest → times 10 rest ≡ 0 → 0 < length rest → n ≡ length es + 1 → Malformed bs n
-unended bs es rest n b z s k = record {
-  before = es;
-  rest = rest;
-  begins = b;
-  some = s;
-  unwritten = λ e more p q. omega (arith, ap (times 10) q, times-append 10 (written e) (10 ∷ more));
-  number = k;
-}
+    unwritten : Ending l rest' → (e : Entry) (more : List ℕ) → Proper e → rest ≡ written e ++ (10 ∷ more) → ⊥
+    unwritten (ended m q z) e more p w =
+        let c : m ++ (10 ∷ rest') ≡ written e ++ (10 ∷ more) = sym (append_assoc m (10 ∷ []) rest') ∙ ap (λ x. x ++ rest') (sym q) ∙ sym d.cut ∙ w in
+        h e p (q ∙ ap (λ x. x ++ (10 ∷ [])) (first_cut m (written e) rest' more z (written_unbroken e p) c).0)
+    unwritten (unended z q o) e more p w =
+        omega (arith, ap (times 10) w, ap (times 10) d.cut, ap (times 10) q, times-append 10 l rest', times-append 10 (written e) (10 ∷ more))
+
+-- What a line says that stands here with the line feed that ends it.
+abbrev pub Ended : List ℕ → Option Line → Type 0
+Ended l (Some d) = (l ≡ written (entry d) ++ (10 ∷ [])) × Proper (entry d)
+Ended l None = (e : Entry) → Proper e → l ≡ written e ++ (10 ∷ []) → ⊥
+
+-- The text before a line feed at the end, if there is one.
+abbrev pub Stripped : List ℕ → Option (Bor (List ℕ)) → Type 0
+Stripped l s = MatchOption s (pointwise eqb (drop (length l - 1) l) (10 ∷ []) ≡ false) (λ x. (pointwise eqb (drop (length l - 1) l) (10 ∷ []) ≡ true) × (x.now ≡ take (length l - 1) l) × (length x.now + 1 ≡ length l))
+
+one_byte : (xs : List ℕ) → pointwise eqb xs (10 ∷ []) ≡ true → xs ≡ 10 ∷ []
+one_byte [] h = cc
+one_byte (x ∷ []) h = ap (λ y. y ∷ []) (eqb-true x 10 (and_parts (eqb x 10) true h).0)
+one_byte (x ∷ y ∷ xs) h = absurd (both_ways true (sym (and_parts (eqb x 10) false h).1) refl)
+
+last_fed : (l m : List ℕ) → l ≡ m ++ (10 ∷ []) → drop (length l - 1) l ≡ 10 ∷ []
+last_fed l m e = ap (λ x. drop (length l - 1) x) e ∙ drop_at m (10 ∷ []) (length l - 1) (omega (arith, ap length e, length_push m 10))
+
+-- The text before the line feed is parsed exactly if the line is.
+pub ended_line : (l : List ℕ) (s : Option (Bor (List ℕ))) (o : Option Line) → Stripped l s → MatchOption s (o ≡ None) (λ x. Parses x.now o) → Ended l o
+ended_line l None o h p = subst (λ d. Ended l d) (sym p) (λ e q w. both_ways _ h (ap (λ r. pointwise eqb r (10 ∷ [])) (last_fed l (written e) w)))
+ended_line l (Some x) o h p = go o p
+  where
+    cut : l ≡ x.now ++ (10 ∷ [])
+    cut = sym (take-append-drop (length l - 1) l) ∙ ap (λ r. r ++ drop (length l - 1) l) (sym h.1) ∙ ap (λ r. x.now ++ r) (one_byte _ h.0)
+
+    go : (o : Option Line) → Parses x.now o → Ended l o
+    go (Some d) p = (cut ∙ ap (λ r. r ++ (10 ∷ [])) p.text, p.proper)
+    go None p = λ e q w. p e q (append_cancel_right x.now (written e) (10 ∷ []) (sym cut ∙ w))
+
+-- A line that an entry writes, before the rest.
+pub line_first : (rest l rest' : List ℕ) (e : Entry) → Piece rest l rest' → l ≡ written e ++ (10 ∷ []) → rest ≡ written e ++ (10 ∷ rest')
+line_first rest l rest' e d w = d.cut ∙ ap (λ x. x ++ rest') w ∙ append_assoc (written e) (10 ∷ []) rest'
 
 -- The next line's parts do not fit.
-pub misplaced : (bs : List ℕ) (es : List Entry) (rest l rest' : List ℕ) (e : Entry) (n : ℕ) → Begins bs es rest → Cut 10 rest l rest' → l ≡ written e → Proper e → (Fits (length es + 1) (used es) e.1 → ⊥) → n ≡ length es + 1 → Misplaced bs n
-misplaced bs es rest l rest' e n b d w p h k =
-    let r : rest ≡ written e ++ (10 ∷ rest') = d.text ∙ ap (λ xs. xs ++ (10 ∷ rest')) w in
-    record {
-      before = es;
-      entry = e;
-      rest = rest';
-      begins = subst (λ (xs : List ℕ). Begins bs es xs) r b;
-      proper = p;
-      unplaced = λ g. h (record {
-        earlier = earlier_last 1 (length es + 1) es e (omega arith) g.earlier;
-        once = λ q. subst (λ (xs : List ℕ). times q xs ≤ 1) (used_push es e) (g.once q);
-      });
-      number = k;
-    }
+pub misplaced : (bs : List ℕ) (es : List Entry) (rest rest' : List ℕ) (e : Entry) (n : ℕ) → Begins bs es rest → rest ≡ written e ++ (10 ∷ rest') → Proper e → (Fits (length es + 1) (used es) e.1 → ⊥) → n ≡ length es + 1 → Misplaced bs n
+misplaced bs es rest rest' e n b d p h k = record {
+  before = es;
+  entry = e;
+  rest = rest';
+  begins = subst (λ (xs : List ℕ). Begins bs es xs) d b;
+  proper = p;
+  unplaced = λ g. h (record {
+    earlier = earlier_last 1 (length es + 1) es e (omega arith) g.earlier;
+    once = λ q. subst (λ (xs : List ℕ). times q xs ≤ 1) (used_push es e) (g.once q);
+  });
+  number = k;
+}
 
 -- All lines are good.
 pub unused : (bs : List ℕ) (es : List Entry) (k : ℕ) → Begins bs es [] → LeastUnused (length es) k (used es) → Unused bs k
@@ -121,10 +159,3 @@ none_used s m (e ∷ es) l h =
 
 pub last_unused : (bs : List ℕ) (es : List Entry) (rest : List ℕ) → Begins bs es rest → times (length es) (used es) ≡ 0
 last_unused bs es rest b = none_used 1 (length es) es (omega arith) b.placed.earlier
-
--- The same step of the reader on the same sheet.
-pub moved : (xs ys : List ℕ) (from to line next : ℕ) (l : List ℕ) → xs ≡ ys → Step xs from to line next l → Step ys from to line next l
-moved xs ys from to line next l e s = subst (λ (bs : List ℕ). Step bs from to line next l) e s
-
-pub stopped : (xs ys : List ℕ) (from to line next : ℕ) → xs ≡ ys → Stop xs from to line next → Stop ys from to line next
-stopped xs ys from to line next e s = subst (λ (bs : List ℕ). Stop bs from to line next) e s

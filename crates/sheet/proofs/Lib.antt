@@ -2,8 +2,6 @@ pub mod Times
 pub mod Numerals
 pub mod Uncut
 pub mod Cutting
-pub mod Listed
-pub mod Positive
 pub mod Collecting
 pub mod Shaping
 pub mod Parsing

@@ -1,16 +1,14 @@
 -- The bytes of a line write an entry exactly if they are parsed as that entry.
 use Rattle.std.proofs.Common.{◌≡◌, ℕ, ◌-◌, ◌<◌, ◌≤◌, List, [], ◌∷◌, ◌++◌, map, length, get_or, take, drop, Some, None, decimal, Option, sym, refl, ap, ◌∙◌, subst, arith}
 use Rattle.std.proofs.lemmas.List.{append-nil, take_rest, length-map, nil_from_length}
-use Rattle.terms.specs.Gate.{name, Named}
+use Rattle.terms.specs.Gate.{name}
 use Rattle.terms.specs.declared.Gate.{Gate}
 use Rattle.terms.specs.declared.Kind.{Kind}
 use Rattle.terms.specs.declared.Kind.TheVariants.{Variable, Wire, Constant, Gate as GateNode, New, Bang, Application, Tuple, Binder}
 use Rattle.sheet.specs.Entry.{Entry, own, tabbed, written, Each, Proper}
-use Rattle.sheet.specs.Entries.{listed, entry, Parsed, Parses}
+use Rattle.sheet.specs.Entries.{entry, Parses}
 use Rattle.sheet.specs.Fields.{Fields, Collects, shape, Shapes}
-use Rattle.sheet.specs.declared.line.Numbers.{Numbers}
 use Rattle.sheet.specs.declared.line.Line.{Line}
-use Rattle.sheet.proofs.Listed.{listed-length}
 use Rattle.sheet.proofs.Collecting.{one_list}
 use Rattle.sheet.proofs.Shaping.{byte, letter-byte, numbers, Numeric, numeric, complete, sound}
 
@@ -74,20 +72,6 @@ module _ (xs : List ℕ) (long : 2 ≤ length xs) (tab : get_or xs 1 0 ≡ 9) wh
   opened : (e : Entry) → xs ≡ written e → Splits (get_or xs 0 0) (9 ∷ after_tab xs) e
   opened e q = splits (get_or xs 0 0) (9 ∷ after_tab xs) e (sym (two_bytes xs long tab) ∙ q)
 
-  pub gate-line : (l : Line) (g : Gate) → get_or xs 0 0 ≡ 103 → Named (after_tab xs) (Some g) → entry l ≡ (GateNode g, []) → Parsed xs l
-  gate-line l g i n e =
-      let w : written (GateNode g, []) ≡ 103 ∷ (9 ∷ name g) = ap (λ x. 103 ∷ (9 ∷ x)) (append-nil (name g)) in
-      record {
-        text = two_bytes xs long tab ∙ ap (λ x. x ∷ (9 ∷ after_tab xs)) i ∙ ap (λ x. 103 ∷ (9 ∷ x)) n ∙ sym w ∙ ap written (sym e);
-        proper = subst Proper (sym e) (record { own_range = tt; part_count = refl; part_range = tt });
-      }
-
-  pub no_gate : get_or xs 0 0 ≡ 103 → Named (after_tab xs) None → Parses xs None
-  no_gate i n = λ e h q.
-      let s = opened e q in
-      let g = gate-name e.0 e.1 (after_tab xs) (sym s.initial ∙ i) h s.follows in
-      n g.0 g.1
-
   module _ (other : get_or xs 0 0 ≡ 103 → ⊥) where
     numeric-entry : (e : Entry) → Proper e → xs ≡ written e → Numeric e
     numeric-entry e h q = numeric e.0 e.1 (λ b. other ((opened e q).initial ∙ b)) h
@@ -95,22 +79,22 @@ module _ (xs : List ℕ) (long : 2 ≤ length xs) (tab : get_or xs 1 0 ≡ 9) wh
     its_fields : (e : Entry) → Proper e → xs ≡ written e → Fields (9 ∷ after_tab xs) (numbers e)
     its_fields e h q = let n = numeric-entry e h q in record { text = (opened e q).follows ∙ ap tabbed n.fields; range = n.range }
 
-    pub no_numbers : Collects [] (after_tab xs) None → Parses xs None
+    pub no_numbers : Collects [] (9 ∷ after_tab xs) None → Parses xs None
     no_numbers c = λ e h q. c (numbers e) (its_fields e h q) (omega (arith, (numeric-entry e h q).few))
 
-    pub number-line : (m : Numbers) → Collects [] (after_tab xs) (Some (listed m)) → (r : Option Line) → Shapes (shape (get_or xs 0 0) (listed m)) r → Parses xs r
+    pub number-line : (m : List ℕ) → Collects [] (9 ∷ after_tab xs) (Some m) → (r : Option Line) → Shapes (shape (get_or xs 0 0) m) r → Parses xs r
     number-line m c (Some l) s =
-        let made = sound (get_or xs 0 0) (listed m) (subst (λ x. Each (λ n. n ≤ 4096) x) (sym c.together) c.fields.range) (omega (arith, listed-length m, m.few)) (entry l) s in
-        let n = numeric l.kind (listed l.parts) (λ b. other (made.initial ∙ b)) made.proper in
+        let made = sound (get_or xs 0 0) m (subst (λ x. Each (λ n. n ≤ 4096) x) (sym c.together) c.fields.range) c.few (entry l) s in
+        let n = numeric l.kind (l.parts) (λ b. other (made.initial ∙ b)) made.proper in
         let follows : 9 ∷ after_tab xs ≡ tabbed (fields (entry l)) = c.fields.text ∙ ap (λ x. tabbed (map decimal x)) (sym c.together ∙ made.fields) ∙ ap tabbed (sym n.fields) in
         record {
           text = two_bytes xs long tab ∙ ap (λ x. get_or xs 0 0 ∷ x) follows ∙ ap (λ x. x ∷ tabbed (fields (entry l))) made.initial ∙ sym (written_byte (entry l));
           proper = made.proper;
         }
     number-line m c None s = λ e h q.
-        let all : listed m ≡ numbers e = c.together ∙ one_list (9 ∷ after_tab xs) c.numbers (numbers e) c.fields (its_fields e h q) in
+        let all : m ≡ numbers e = c.together ∙ one_list (9 ∷ after_tab xs) c.numbers (numbers e) c.fields (its_fields e h q) in
         let i = (opened e q).initial in
-        let k : shape (get_or xs 0 0) (listed m) ≡ Some e = ap (λ b. shape b (listed m)) i ∙ ap (λ ns. shape (byte e.0) ns) all ∙ complete e.0 e.1 (λ b. other (i ∙ b)) h in
+        let k : shape (get_or xs 0 0) m ≡ Some e = ap (λ b. shape b m) i ∙ ap (λ ns. shape (byte e.0) ns) all ∙ complete e.0 e.1 (λ b. other (i ∙ b)) h in
         let d : ◌≡◌ {A = ℕ} 0 1 = cc in omega arith
 
 pub no_form : (xs : List ℕ) → (2 ≤ length xs → get_or xs 1 0 ≡ 9 → ⊥) → Parses xs None

@@ -1,5 +1,5 @@
 -- A letter and numbers make an entry exactly if they are what it is written with.
-use Rattle.std.proofs.Common.{◌≡◌, ℕ, ◌≤◌, Bool, true, false, cond, ◌&&◌, eqb, ltb, leb, List, [], ◌∷◌, ◌++◌, map, length, get_or, Some, decimal, Option, sym, refl, ap, ◌∙◌, subst, arith}
+use Rattle.std.proofs.Common.{◌≡◌, ℕ, zero, suc, ◌<◌, ◌≤◌, Bool, true, false, cond, ◌&&◌, eqb, ltb, leb, List, [], ◌∷◌, ◌++◌, map, length, get_or, Some, None, decimal, Option, sym, refl, ap, ◌∙◌, subst, arith}
 use Rattle.std.proofs.lemmas.Bool.{leb-true, ltb-true, eqb-true, eqb-false, le-leb, lt-ltb, eq-eqb, and_parts, and_from, cond_both}
 use Rattle.std.proofs.lemmas.List.{nil_from_length}
 use Rattle.terms.specs.Flat.{kind_parts, wire_of}
@@ -75,6 +75,11 @@ positive-from (p ∷ ps) r = and_from _ _ (lt-ltb 0 p r.0.0) (positive-from ps r
 positive-to : (ps : List ℕ) → positive ps ≡ true → Each (λ p. p ≤ 4096) ps → Each (λ p. (1 ≤ p) × (p ≤ 4096)) ps
 positive-to [] h r = tt
 positive-to (p ∷ ps) h r = let q = and_parts (ltb 0 p) (positive ps) h in ((ltb-true 0 p q.0, r.0), positive-to ps q.1 r.1)
+
+positive_at : (ns : List ℕ) (i : ℕ) → i < length ns → positive ns ≡ true → 0 < get_or ns i 0
+positive_at [] i l h = absurd (omega arith)
+positive_at (n ∷ ns) zero l h = ltb-true 0 n (and_parts (ltb 0 n) (positive ns) h).0
+positive_at (n ∷ ns) (suc i) l h = positive_at ns i (omega arith) (and_parts (ltb 0 n) (positive ns) h).1
 
 all_parts : (k : Kind) (ps : List ℕ) (t : Bool) → t ≡ true → Proper (k, ps) → given (t && positive ps) k ps ≡ Some (k, ps)
 all_parts k ps t e h = rw (e, positive-from ps h.part_range) refl
@@ -179,3 +184,29 @@ module _ (b : ℕ) (ns : List ℕ) (range : Each (λ n. n ≤ 4096) ns) (few : l
     where
       try : (a : ℕ) (x y : Option Entry) → (b ≡ a → x ≡ Some e → Made b ns e) → (y ≡ Some e → Made b ns e) → cond (eqb b a) x y ≡ Some e → Made b ns e
       try a x y f g = cond_both (eqb b a) x y (λ o. o ≡ Some e → Made b ns e) (λ t. f (eqb-true b a t)) (λ _. g)
+
+-- Numbers that fit no letter make no entry.
+module _ (b : ℕ) (ns : List ℕ) where
+  none_given : (t : Bool) (k : Kind) (ps : List ℕ) → (t ≡ true → ⊥) → given t k ps ≡ None
+  none_given true k ps h = absurd (h refl)
+  none_given false k ps h = refl
+
+  pub misfit : (b ≡ 118 → length ns ≡ 2 → get_or ns 0 0 ≤ 4095 → get_or ns 1 0 ≤ 7 → ⊥) → (b ≡ 119 → length ns ≡ 1 → get_or ns 0 0 ≤ 4095 → ⊥) → (b ≡ 99 → length ns ≡ 1 → get_or ns 0 0 ≤ 1 → ⊥) → (b ≡ 110 → length ns ≡ 1 → 0 < get_or ns 0 0 → ⊥) → (b ≡ 98 → length ns ≡ 1 → 0 < get_or ns 0 0 → ⊥) → (b ≡ 97 → length ns ≡ 2 → 0 < get_or ns 0 0 → 0 < get_or ns 1 0 → ⊥) → (b ≡ 116 → 2 ≤ length ns → positive ns ≡ true → ⊥) → (b ≡ 108 → length ns ≡ 2 → get_or ns 0 0 ≤ 8 → 0 < get_or ns 1 0 → ⊥) → shape b ns ≡ None
+  misfit v w c n g a t l =
+      try 118 _ _ (λ i. none_given _ _ _ (λ q. let p = and_parts _ _ q in let o = and_parts _ _ p.0 in v i (eqb-true _ _ o.0) (leb-true _ _ o.1) (leb-true _ _ p.1))) (
+      try 119 _ _ (λ i. none_given _ _ _ (λ q. let p = and_parts _ _ q in w i (eqb-true _ _ p.0) (leb-true _ _ p.1))) (
+      try 99 _ _ (λ i. none_given _ _ _ (λ q. let p = and_parts _ _ q in c i (eqb-true _ _ p.0) (leb-true _ _ p.1))) (
+      try 110 _ _ (λ i. none_given _ _ _ (λ q. let p = and_parts _ _ q in one_part n i (eqb-true _ _ p.0) p.1)) (
+      try 98 _ _ (λ i. none_given _ _ _ (λ q. let p = and_parts _ _ q in one_part g i (eqb-true _ _ p.0) p.1)) (
+      try 97 _ _ (λ i. none_given _ _ _ (λ q. let p = and_parts _ _ q in two_parts a i (eqb-true _ _ p.0) p.1)) (
+      try 116 _ _ (λ i. none_given _ _ _ (λ q. let p = and_parts _ _ q in t i (leb-true _ _ p.0) p.1)) (
+      try 108 _ _ (λ i. none_given _ _ _ (λ q. let p = and_parts _ _ q in let o = and_parts _ _ p.0 in l i (eqb-true _ _ o.0) (leb-true _ _ o.1) (ltb-true _ _ p.1))) refl)))))))
+    where
+      try : (a : ℕ) (x y : Option Entry) → (b ≡ a → x ≡ None) → y ≡ None → cond (eqb b a) x y ≡ None
+      try a x y f g = cond_both (eqb b a) x y (λ o. o ≡ None) (λ t. f (eqb-true b a t)) (λ _. g)
+
+      one_part : {a : ℕ} → (b ≡ a → length ns ≡ 1 → 0 < get_or ns 0 0 → ⊥) → b ≡ a → length ns ≡ 1 → positive ns ≡ true → ⊥
+      one_part f i e p = f i e (positive_at ns 0 (omega arith) p)
+
+      two_parts : {a : ℕ} → (b ≡ a → length ns ≡ 2 → 0 < get_or ns 0 0 → 0 < get_or ns 1 0 → ⊥) → b ≡ a → length ns ≡ 2 → positive ns ≡ true → ⊥
+      two_parts f i e p = f i e (positive_at ns 0 (omega arith) p) (positive_at ns 1 (omega arith) p)

@@ -1,6 +1,6 @@
 -- A stack of lines whose terms are still to come.
-use Rattle.std.proofs.Common.{◌≡◌, ℕ, suc, ◌+◌, ◌-◌, ◌<◌, ◌≤◌, List, [], ◌∷◌, ◌++◌, reverse, length, get_or, drop, sym, refl, ap, ◌∙◌, subst, append_assoc, append-nil, arith, length-append}
-use Rattle.std.proofs.lemmas.List.{reverse-append, reverse-reverse, length-reverse, drop_more, length-map, map-append}
+use Rattle.std.proofs.Common.{◌≡◌, ℕ, suc, ◌+◌, ◌-◌, ◌<◌, ◌≤◌, List, [], ◌∷◌, ◌++◌, reverse, length, get_or, sym, refl, ap, ◌∙◌, subst, append_assoc, append-nil, arith, length-append}
+use Rattle.std.proofs.lemmas.List.{reverse-append, reverse-reverse, length-reverse, length-map, map-append}
 use Rattle.terms.specs.Term.{Term, Terms, none, part}
 use Rattle.terms.specs.Flat.{flat, flats, node_of, kind_of, parts}
 use Rattle.terms.specs.declared.Kind.{Kind}
@@ -8,22 +8,14 @@ use Rattle.terms.specs.declared.Node.{Node}
 use Rattle.terms.proofs.Forests.{join, flat-node, flats-join}
 use Rattle.sheet.specs.Entry.{Entry, Each, Proper}
 use Rattle.sheet.specs.Sheet.{Placed}
-use Rattle.sheet.specs.Entries.{listed, entry, entries}
+use Rattle.sheet.specs.Entries.{entry, entries}
 use Rattle.sheet.specs.Located.{nodes_in, lines_in}
 use Rattle.sheet.specs.Reading.{Line, first_line, later_line, Writes, Write, line, no_parts, more_parts}
 use Rattle.sheet.specs.Tables.{Tabled}
 use Rattle.sheet.specs.declared.line.Line.{Line as CodeLine}
 use Rattle.sheet.specs.declared.located.LocatedNode.{LocatedNode}
-use Rattle.sheet.proofs.Listed.{listed-length}
 use Rattle.sheet.proofs.Times.{few}
 use Rattle.sheet.proofs.Writing.{WrittenTerm, written-term, writes-once, writes-range, line-range}
-
-pub stack_more : (base xs : List ℕ) (k : ℕ) → 0 < k → k ≤ length xs → (base ++ reverse (drop k xs)) ++ (get_or xs (k - 1) 0 ∷ []) ≡ base ++ reverse (drop (k - 1) xs)
-stack_more base xs k o h =
-    let e : k - 1 + 1 ≡ k = omega arith in
-    let x : ℕ = get_or xs (k - 1) 0 in
-    let d : drop (k - 1) xs ≡ x ∷ drop k xs = drop_more xs (k - 1) 0 (omega arith) ∙ ap (λ i. x ∷ drop i xs) e in
-    append_assoc base (reverse (drop k xs)) (x ∷ []) ∙ ap (λ ys. base ++ ys) (sym (ap reverse d ∙ reverse-append (x ∷ []) (drop k xs)))
 
 -- Where the walk is: the terms that pending lines write are still to come, and make up the rest of the whole.
 pub record Underway (es : List Entry) (pending : List ℕ) (table : List LocatedNode) : Type 0 where
@@ -155,8 +147,8 @@ pub record Turn (xs : List CodeLine) (rest : List ℕ) (n : ℕ) (table : List L
   pub low : 1 ≤ n
   pub high : n ≤ length xs
   pub room : length table < length xs
-  pub stack_room : (x : CodeLine) → x ≡ get_or xs (n - 1) x → length rest + x.parts.count ≤ length xs
-  pub next : (x : CodeLine) → x ≡ get_or xs (n - 1) x → (after : List ℕ) (table' : List LocatedNode) → after ≡ rest ++ reverse (listed x.parts) → table' ≡ table ++ (located x.kind n ∷ []) → Underway (entries xs) after table'
+  pub stack_room : (x : CodeLine) → x ≡ get_or xs (n - 1) x → length rest + length x.parts ≤ length xs
+  pub next : (x : CodeLine) → x ≡ get_or xs (n - 1) x → (after : List ℕ) (table' : List LocatedNode) → after ≡ rest ++ reverse x.parts → table' ≡ table ++ (located x.kind n ∷ []) → Underway (entries xs) after table'
 
 pub turn : (xs : List CodeLine) (stack rest : List ℕ) (n : ℕ) (table : List LocatedNode) → Placed (entries xs) → stack ≡ rest ++ (n ∷ []) → Underway (entries xs) stack table → Turn xs rest n table
 turn xs stack rest n table p e u =
@@ -174,8 +166,8 @@ turn xs stack rest n table p e u =
       room = omega arith;
       stack_room = λ x d.
           let q : (kind_of t.term, t.below) ≡ entry x = line-entry t.says xs x refl ∙ ap entry (sym d) in
-          let k : length t.below ≡ length (listed x.parts) = ap (λ (y : Entry). length y.1) q in
-          omega (arith, listed-length x.parts, length-reverse rest);
+          let k : length t.below ≡ length x.parts = ap (λ (y : Entry). length y.1) q in
+          omega (arith, length-reverse rest);
       next = λ x d after table' f g.
           let q : (kind_of t.term, t.below) ≡ entry x = line-entry t.says xs x refl ∙ ap entry (sym d) in
           steps es stack rest after n table table' u t

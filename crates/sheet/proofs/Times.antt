@@ -1,5 +1,5 @@
 -- How often numbers stand in lists, and sums over the numbers of a range.
-use Rattle.std.proofs.Common.{◌≡◌, ℕ, zero, suc, ◌+◌, ◌*◌, ◌<◌, ◌≤◌, cond, eqb, ◌⊎◌, List, [], ◌∷◌, ◌++◌, length, sym, refl, ap, ◌∙◌, subst, inl, inr, mul-le-mul_left, mul-zero, zero-add, zero-mul, mul-add, arith}
+use Rattle.std.proofs.Common.{◌≡◌, ℕ, zero, suc, ◌+◌, ◌*◌, ◌<◌, ◌≤◌, cond, eqb, ◌⊎◌, List, [], ◌∷◌, ◌++◌, length, filter, sym, refl, ap, ◌∙◌, subst, inl, inr, mul-le-mul_left, mul-zero, zero-add, zero-mul, mul-add, arith}
 use Rattle.std.proofs.lemmas.Bool.{eq-eqb, ne_eqb, cases_eq}
 use Rattle.sheet.specs.Entry.{Each}
 use Rattle.sheet.specs.Sheet.{times}
@@ -26,6 +26,13 @@ times_other n x xs h = rw (ne_eqb n x h) (zero-add (times n xs))
 
 pub times_none : (n x : ℕ) (xs : List ℕ) → times n (x ∷ xs) ≡ 0 → n ≡ x → ⊥
 times_none n x xs h e = let k : times n (x ∷ xs) ≡ 1 + times n xs = subst (λ y. times n (y ∷ xs) ≡ 1 + times n xs) e (times_here n xs) in omega arith
+
+pub length-filter : (stop : ℕ) (xs : List ℕ) → length (filter (λ x. eqb x stop) xs) ≡ times stop xs
+length-filter stop [] = refl
+length-filter stop (x ∷ xs) = elim (cases_eq x stop) [
+  | inl e ↦ rw (eq-eqb x stop e, eq-eqb stop x (sym e)) (omega (arith, length-filter stop xs))
+  | inr n ↦ rw (ne_eqb x stop n, ne_eqb stop x (λ e. n (sym e))) (omega (arith, length-filter stop xs))
+]
 
 -- The sum of f over the n numbers from s on, and over the numbers of a list.
 abbrev pub span : ℕ → ℕ → (ℕ → ℕ) → ℕ

@@ -1,14 +1,10 @@
 -- What the code's lines stand for.
-use Rattle.std.specs.Prelude.{◌≡◌, ℕ, List, map, take, Some, None, Option, ◌≢◌}
+use Rattle.std.specs.Prelude.{◌≡◌, ℕ, List, map, Some, None, Option, ◌≢◌}
 use Rattle.sheet.specs.Entry.{Entry, written, Proper}
-use Rattle.sheet.specs.declared.line.Numbers.{Numbers}
 use Rattle.sheet.specs.declared.line.Line.{Line}
 
-abbrev pub listed : Numbers → List ℕ
-listed m = take m.count m.list
-
 abbrev pub entry : Line → Entry
-entry l = (l.kind, listed l.parts)
+entry l = (l.kind, l.parts)
 
 abbrev pub entries : List Line → List Entry
 entries ls = map entry ls

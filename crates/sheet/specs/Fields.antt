@@ -1,5 +1,6 @@
 -- The numbers in the fields of a line, and the entry that they make with the line's letter.
 use Rattle.std.specs.Prelude.{◌≡◌, ℕ, ◌+◌, ◌≤◌, Bool, true, false, cond, ◌&&◌, List, [], ◌∷◌, ◌++◌, map, length, Some, None, decimal, Option, ◌==◌, nat_le, nat_lt, slice_index}
+use Rattle.std.specs.List.{list_all}
 use Rattle.terms.specs.Flat.{wire_of}
 use Rattle.terms.specs.declared.Kind.{Kind}
 use Rattle.terms.specs.declared.Kind.TheVariants.{Variable, Wire, Constant, New, Bang, Application, Tuple, Binder}
@@ -12,19 +13,19 @@ pub record Fields (bs ns : List ℕ) : Type 0 where
   pub text : bs ≡ tabbed (map decimal ns)
   pub range : Each (λ n. n ≤ 4096) ns
 
--- The numbers `all` are those `before`, and after them those that the fields write.
+-- The numbers `all`, at most eight, are those `before`, and after them those that the fields write.
 pub record Collected (before bs all : List ℕ) : Type 0 where
   pub numbers : List ℕ
-  pub fields : Fields (9 ∷ bs) numbers
+  pub fields : Fields bs numbers
   pub together : all ≡ before ++ numbers
+  pub few : length all ≤ 8
 
 abbrev pub Collects : List ℕ → List ℕ → Option (List ℕ) → Type 0
 Collects before bs (Some all) = Collected before bs all
-Collects before bs None = (ns : List ℕ) → Fields (9 ∷ bs) ns → length before + length ns ≤ 8 → ⊥
+Collects before bs None = (ns : List ℕ) → Fields bs ns → length before + length ns ≤ 8 → ⊥
 
 abbrev pub positive : List ℕ → Bool
-positive [] = true
-positive (n ∷ ns) = nat_lt 0 n && positive ns
+positive ns = list_all (λ n. nat_lt 0 n) ns
 
 abbrev pub given : Bool → Kind → List ℕ → Option Entry
 given true k ps = Some (k, ps)

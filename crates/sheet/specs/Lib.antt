@@ -2,7 +2,6 @@ pub mod Refusal
 pub mod Entry
 pub mod Sheet
 pub mod Located
-pub mod Split
 pub mod Numeral
 pub mod Fields
 pub mod Entries

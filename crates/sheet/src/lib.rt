@@ -4,13 +4,11 @@
 ghost use Rattle.std.specs.Prelude.{◌≡◌, IfOk};
 ghost use Rattle.sheet.specs.Reading.{HoldsZero, Reads, ReadingIsDetermined};
 
-use lines::read_lines;
 use located::LocatedNode;
 use program::Program;
 use refusal::Refusal;
 use std::alloc::{AllocError, Global};
 use storage::ReadStorage;
-use table::fill_table;
 use terms::{Kind, Node};
 
 mod line;
@@ -18,9 +16,7 @@ mod lines;
 pub mod located;
 mod parse;
 pub mod program;
-mod reader;
 pub mod refusal;
-mod split;
 pub mod storage;
 mod table;
 mod uses;
@@ -50,13 +46,10 @@ impl Program {
 impl ReadStorage {
     /// Reserves the memory that reading a sheet of any size works in.
     pub fn new(heap: Global) -> Result<ReadStorage, AllocError> {
-        let sheet_lines = Vec::with_capacity(heap, 4096)?;
-        let used = Vec::with_capacity(heap, 4097)?;
-        let pending = Vec::with_capacity(heap, 4096)?;
         Ok(ReadStorage {
-            sheet_lines,
-            used,
-            pending,
+            sheet_lines: Vec::with_capacity(heap, 4096)?,
+            used: Vec::with_capacity(heap, 4097)?,
+            pending: Vec::with_capacity(heap, 4096)?,
         })
     }
 }
@@ -65,8 +58,8 @@ impl ReadStorage {
 pub fn read(sheet: &[u8], storage: &mut ReadStorage, place: &mut Program) -> Result<(), Refusal>
     ensures { Reads sheet.now result place.old place.new }
 {
-    read_lines(sheet, &mut storage.sheet_lines, &mut storage.used)?;
-    fill_table(&storage.sheet_lines, &mut storage.pending, &mut place.table);
+    storage.read_lines(sheet)?;
+    storage.fill_table(&mut place.table);
     Ok(())
 }
 

@@ -2,25 +2,26 @@
 ghost use Rattle.std.specs.Prelude.{◌≡◌, Some};
 ghost use Rattle.sheet.specs.Refusal.{number, reason, told};
 
+use std::error::Error;
 use std::fmt;
 
-/// The rule that a sheet breaks.
+/// The rule that a sheet breaks, with the number by which it is known.
 #[derive(Clone, Copy, PartialEq, Eq, Debug)]
 pub enum Rule {
     /// A line does not follow the sheet's form.
-    Form,
+    Form = 11,
     /// The sheet is empty, over 65,536 bytes, or has over 4,096 line ends.
-    Size,
+    Size = 12,
     /// A part is not an earlier line or is already used, or a line but the last is not used.
-    Part,
+    Part = 13,
     /// A variable has no binder, or a place outside its binder's pattern.
-    Unbound,
+    Unbound = 14,
     /// A variable of a linear pattern is used never or more than once.
-    Misused,
+    Misused = 15,
     /// A linear variable stands in a bang inside its binder's body, or a wire in any bang.
-    Shut,
+    Shut = 16,
     /// A wire stands on an earlier line too.
-    Repeated,
+    Repeated = 17,
 }
 
 /// The broken rule, and the line, counted from 1, that breaks it; a sheet of a wrong size is refused at line 0.
@@ -35,22 +36,23 @@ impl Rule {
     pub fn number(self) -> u8
         ensures { result ≡ number self }
     {
-        match self {
-            Rule::Form => 11,
-            Rule::Size => 12,
-            Rule::Part => 13,
-            Rule::Unbound => 14,
-            Rule::Misused => 15,
-            Rule::Shut => 16,
-            Rule::Repeated => 17,
-        }
+        self as u8
     }
 
-    /// What is wrong with a sheet that breaks the rule.
-    fn reason(self) -> &'static str
-        ensures { result.now ≡ reason self }
+    /// The refusal of a sheet that breaks the rule at this line.
+    pub fn at(self, line: u16) -> Refusal
+        ensures { result ≡ record { rule = self; line = line } }
     {
-        match self {
+        Refusal { rule: self, line }
+    }
+}
+
+/// What is wrong with a sheet that breaks the rule.
+impl fmt::Display for Rule {
+    ghost output = { λ x. Some (reason x) };
+
+    fn fmt<W: fmt::Write>(&self, f: &mut fmt::Formatter<W>) -> fmt::Result {
+        f.write_str(match self {
             Rule::Form => "the line does not follow the form of a sheet",
             Rule::Size =>
                 "the sheet is empty, has more than 65536 bytes, or has more than 4096 line ends",
@@ -60,7 +62,7 @@ impl Rule {
             Rule::Misused => "a variable of this binder is used never or more than once",
             Rule::Shut => "a linear variable or a wire stands in a bang",
             Rule::Repeated => "the wire stands on an earlier line too",
-        }
+        })
     }
 }
 
@@ -68,8 +70,9 @@ impl fmt::Display for Refusal {
     ghost output = { λ x. Some (told x.rule x.line) };
 
     fn fmt<W: fmt::Write>(&self, f: &mut fmt::Formatter<W>) -> fmt::Result {
-        let line = self.line;
-        let reason = self.rule.reason();
-        write!(f, "line {line}: {reason}")
+        let Refusal { rule, line } = self;
+        write!(f, "line {line}: {rule}")
     }
 }
+
+impl Error for Refusal {}

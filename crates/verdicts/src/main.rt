@@ -24,12 +24,9 @@ fn main(rt: HostRuntime) -> anyhow::Result<()> {
     let mut input = Vec::new(heap);
     rt.stdin().read_to_end(&mut input)?;
     let mut intake = Intake::new(heap)?;
-    let bytes = input.as_slice();
-    let mut start = 0;
-    for (end, byte) in bytes.iter().enumerate() {
-        if *byte == b'=' && start <= end {
-            print_verdict(&rt, &mut intake, &bytes[start..end])?;
-            start = end + 1;
+    for text in input.as_slice().split_inclusive(|byte| *byte == b'=') {
+        if let Some(sheet) = text.strip_suffix(b"=") {
+            print_verdict(&rt, &mut intake, sheet)?;
         }
     }
     Ok(())

@@ -9,21 +9,20 @@ use Rattle.sheet.proofs.read.Goals.{After-fill_table}
 
 pub fill_table-requires : goal.fill_table-requires
 fill_table-requires c =
-    let es : List Entry = entries (vec_items c.read_lines.new.sheet_lines) in
-    let b = c.in_ok-read_lines.ensures.lined.begins in
-    let n : length es ≡ vec_len c.read_lines.new.sheet_lines = omega (arith, length-map (vec_items c.read_lines.new.sheet_lines) entry, c.read_lines.new.sheet_lines.ok.0) in
+    let es : List Entry = entries (vec_items c.read_lines.new.self.sheet_lines) in
+    let b = c.in_ok-read_lines.ensures.begins in
+    let n : length es ≡ vec_len c.read_lines.new.self.sheet_lines = omega (arith, length-map (vec_items c.read_lines.new.self.sheet_lines) entry, c.read_lines.new.self.sheet_lines.ok.0) in
     record {
       some = omega (arith, some_lines c.args.sheet.now es b);
       few = omega (arith, few-lines c.args.sheet.now es _ b);
       proper = b.proper;
       placed = b.placed;
-      pending_room = c.args.storage.now.pending_room;
-      table_room = c.args.place.now.room;
+      room = c.args.place.now.room;
     }
 
 -- What the place now holds.
-held : (c : goal.After-fill_table) → Filled (entries (vec_items c.read_lines.new.sheet_lines)) (vec_items c.fill_table.new.table)
-held c = filled c.args.sheet.now (entries (vec_items c.read_lines.new.sheet_lines)) (vec_items c.fill_table.new.table) c.in_ok-read_lines.ensures.lined.begins c.fill_table.ensures.tabled
+held : (c : goal.After-fill_table) → Filled (entries (vec_items c.read_lines.new.self.sheet_lines)) (vec_items c.fill_table.new.table)
+held c = filled c.args.sheet.now (entries (vec_items c.read_lines.new.self.sheet_lines)) (vec_items c.fill_table.new.table) c.in_ok-read_lines.ensures.begins c.fill_table.ensures.tabled
 
 pub invariant_of-place : goal.invariant_of-place
 invariant_of-place c =
@@ -35,13 +34,13 @@ invariant_of-place c =
       few = omega (arith, f.few_nodes);
       numbered = λ k h. f.numbered k (omega arith);
       apart = f.apart;
-      room = c.fill_table.ensures.table_room;
+      room = c.fill_table.ensures.room;
     }
 
 pub returns : goal.returns
 returns c =
     record {
-      entries = entries (vec_items c.read_lines.new.sheet_lines);
-      says = c.in_ok-read_lines.ensures.lined;
+      entries = entries (vec_items c.read_lines.new.self.sheet_lines);
+      says = c.in_ok-read_lines.ensures;
       writes = (held (goal.at.returns c).After-fill_table).writes;
     }

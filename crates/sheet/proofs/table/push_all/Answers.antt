@@ -1,27 +1,25 @@
-use Rattle.std.proofs.Common.{◌≡◌, ℕ, ◌-◌, List, [], ◌∷◌, ◌++◌, reverse, get_or, drop, vec_items, sym, refl, ap, ◌∙◌, append-nil, arith}
-use Rattle.std.proofs.lemmas.List.{drop_all}
-use Rattle.sheet.specs.Entries.{listed}
-use Rattle.sheet.proofs.Listed.{listed-length, get_or-listed}
-use Rattle.sheet.proofs.Stacking.{stack_more}
+use Rattle.std.proofs.Common.{◌++◌, ◌∷◌, [], ℕ, List, length, map, vec_items, sym, ap, ◌∙◌, arith, length-append}
+use Rattle.std.proofs.lemmas.List.{length-map, length-reverse, map-append, append_assoc}
+use Rattle.std.proofs.lemmas.Iterator.Adapters.{YieldsList-from_rev_slice}
+use Rattle.std.proofs.lemmas.Iterator.Consumers.{YieldsList-turn, YieldsList-end}
 use Rattle.sheet.proofs.table.push_all.Goals as goal
 
-pub loop-left-init : goal.loop-left-init
-loop-left-init c =
-    let xs : List ℕ = listed c.args.numbers in
-    let n = listed-length c.args.numbers in
-    let e : drop c.args.numbers.count xs ≡ [] = drop_all c.args.numbers.count xs (omega arith) in
-    (omega arith, sym (append-nil _) ∙ ap (λ ys. vec_items c.args.stack.now ++ reverse ys) (sym e), refl, refl)
+pub push_reserved-requires : goal.push_reserved-requires
+push_reserved-requires c =
+    let t = YieldsList-turn (YieldsList-from_rev_slice c.args.numbers.now cc) c.loop-number.yielded _ c.loop-number.yielded_by _ _ c.in-Some.number c.in-Some.is c.next.ensures.steps in
+    omega (arith, length-reverse c.args.numbers.now, length-map c.loop-number.yielded (λ n. n.now), length-append (vec_items c.args.stack.now) (map (λ n. n.now) c.loop-number.yielded), ap (λ (xs : List ℕ). length xs) c.loop-number.invariant.2, c.loop-number.stack.ok.0, c.args.stack.now.ok.0, c.requires)
 
-pub loop-left-preserved : goal.loop-left-preserved
-loop-left-preserved c =
-    let xs : List ℕ = listed c.args.numbers in
-    let k : ℕ = c.loop-left.left in
-    let n = listed-length c.args.numbers in
-    let g : get_or xs (k - 1) 0 ≡ get_or c.args.numbers.list (k - 1) 0 = get_or-listed c.args.numbers (k - 1) (omega (arith, c.loop-left.invariant.0)) in (
-      omega (arith, c.loop-left.invariant.0),
-      c.push_reserved.ensures.items ∙ ap (λ ys. ys ++ (get_or c.args.numbers.list (k - 1) 0 ∷ [])) c.loop-left.invariant.1
-          ∙ ap (λ y. (vec_items c.args.stack.now ++ reverse (drop k xs)) ++ (y ∷ [])) (sym g)
-          ∙ stack_more (vec_items c.args.stack.now) xs k (omega arith) (omega (arith, c.loop-left.invariant.0)),
-      c.push_reserved.ensures.capacity ∙ c.loop-left.invariant.2,
-      omega (arith, c.push_reserved.ensures.len, c.loop-left.invariant.3),
-    )
+pub loop-number-preserved : goal.loop-number-preserved
+loop-number-preserved c = (
+  tt,
+  tt,
+  c.push_reserved.ensures.items ∙ ap (λ (xs : List ℕ). xs ++ (c.in-Some.number.now ∷ [])) c.loop-number.invariant.2
+      ∙ append_assoc (vec_items c.args.stack.now) (map (λ n. n.now) c.loop-number.yielded) (c.in-Some.number.now ∷ [])
+      ∙ ap (λ (xs : List ℕ). vec_items c.args.stack.now ++ xs) (sym (map-append (λ n. n.now) c.loop-number.yielded (c.in-Some.number ∷ []))),
+  c.push_reserved.ensures.capacity ∙ c.loop-number.invariant.3,
+)
+
+pub returns : goal.returns
+returns c =
+    let t = YieldsList-end (YieldsList-from_rev_slice c.args.numbers.now cc) c.loop-number.yielded _ c.loop-number.yielded_by _ _ c.in-None.is c.next.ensures.steps in
+    record { items = c.loop-number.invariant.2 ∙ ap (λ (xs : List ℕ). vec_items c.args.stack.now ++ xs) t.0; capacity = c.loop-number.invariant.3 }

@@ -1,10 +1,9 @@
 use Rattle.std.proofs.Common.{ℕ, ◌≤◌, List, ◌++◌, length, take}
 use Rattle.sheet.specs.Sheet.{times}
-use Rattle.sheet.specs.Entries.{listed}
 use Rattle.sheet.specs.Uses.{Marks, Fits}
 use Rattle.sheet.proofs.uses.mark.Given as goal
 
-abbrev pub invariant-loop-i : goal.invariant-loop-i
-invariant-loop-i l =
+abbrev pub invariant-loop-part : goal.invariant-loop-part
+invariant-loop-part l =
     (ws : List ℕ) → Marks l.initial.used ws → ((p : ℕ) → times p ws ≤ 1)
-    → Fits (length l.initial.used) ws (take l.i (listed l.parts)) × Marks l.used (ws ++ take l.i (listed l.parts))
+    → Fits (length l.initial.used) ws (take l.part-index l.parts) × Marks l.used (ws ++ take l.part-index l.parts)
