@@ -16,7 +16,7 @@ pub(crate) struct UseCounts {
 
 impl UseCounts {
     /// Reserves the counts of 4,096 binders.
-    pub fn new(heap: Global) -> Result<UseCounts, AllocError> {
+    pub(crate) fn new(heap: Global) -> Result<UseCounts, AllocError> {
         let mut rows = Vec::new(heap);
         rows.resize(4096, [0; 8])?;
         Ok(UseCounts { rows })
@@ -42,7 +42,7 @@ impl UseCounts {
     }
 
     /// Counts the uses of the sites' binders.
-    pub fn count(&mut self, sites: &[Site])
+    pub(crate) fn count(&mut self, sites: &[Site])
         requires { length sites.now ≤ 4096 }
         ensures { Counted (roles sites.now) self.new.rows.items }
     {
@@ -55,7 +55,7 @@ impl UseCounts {
     }
 
     /// Whether one of the binder's variables is not used once.
-    pub fn is_misused(&self, site: &Site) -> bool
+    pub(crate) fn is_misused(&self, site: &Site) -> bool
         ensures { result ≡ misused_role self.now.rows.items site.now.role }
     {
         match site.role {

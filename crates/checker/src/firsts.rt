@@ -17,7 +17,7 @@ pub(crate) struct FirstLines {
 
 impl FirstLines {
     /// Reserves the lines of 4,096 wires; at first none has a line.
-    pub fn new(heap: Global) -> Result<FirstLines, AllocError>
+    pub(crate) fn new(heap: Global) -> Result<FirstLines, AllocError>
         ensures { IfOk result (λ f. Blank f.lines.items) }
     {
         let mut lines = Vec::new(heap);
@@ -56,7 +56,7 @@ impl FirstLines {
     }
 
     /// The smallest line on which a wire stands that stands on an earlier line too.
-    pub fn first_repeated(&mut self, sites: &[Site]) -> Option<u16>
+    pub(crate) fn first_repeated(&mut self, sites: &[Site]) -> Option<u16>
         requires blank { Blank self.old.lines.items }
         ensures found { Found (RepeatSite (roles sites.now) (site_lines sites.now)) (site_lines sites.now) result }
         ensures blank { Blank self.new.lines.items }

@@ -1,4 +1,4 @@
-//! What a node is to the rules.
+//! What a node is to the rules, and the binders that it stands within.
 
 /// A binder that a node stands within: its number, its pattern, and the bangs that it stands in.
 #[derive(Clone, Copy)]

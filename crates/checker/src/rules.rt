@@ -27,5 +27,5 @@ pub(crate) fn first_line<F: Fn(&Site) -> bool>(sites: &[Site], breaks: F) -> Opt
 pub(crate) fn unbroken(rule: Rule, line: Option<u16>) -> Result<(), Refusal>
     ensures { MatchOption line (result ≡ Ok tt) (λ l. result ≡ Err (record { rule = rule; line = l })) }
 {
-    line.map_or(Ok(()), |line| Err(Refusal { rule, line }))
+    line.map_or(Ok(()), |line| Err(rule.at(line)))
 }

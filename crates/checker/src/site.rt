@@ -14,7 +14,7 @@ pub struct Site {
 
 impl Site {
     /// Whether it is a variable with no binder, or with a place outside its binder's pattern.
-    pub fn is_unbound(&self) -> bool
+    pub(crate) fn is_unbound(&self) -> bool
         ensures { result ≡ unbound_role self.now.role }
     {
         match self.role {
@@ -25,7 +25,7 @@ impl Site {
     }
 
     /// Whether it is a linear variable or a wire that stands in a bang.
-    pub fn is_shut(&self) -> bool
+    pub(crate) fn is_shut(&self) -> bool
         ensures { result ≡ shut_role self.now.role }
     {
         match self.role {

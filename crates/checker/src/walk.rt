@@ -26,7 +26,7 @@ pub(crate) struct Walk {
 
 impl Walk {
     /// Reserves the memory for walks over up to 4,096 nodes.
-    pub fn new(heap: Global) -> Result<Walk, AllocError> {
+    pub(crate) fn new(heap: Global) -> Result<Walk, AllocError> {
         Ok(Walk {
             frames: Vec::with_capacity(heap, 4096)?,
             sites: Vec::with_capacity(heap, 4096)?,
@@ -34,7 +34,7 @@ impl Walk {
     }
 
     /// The sites of the nodes that were walked over.
-    pub fn sites(&self) -> &[Site]
+    pub(crate) fn sites(&self) -> &[Site]
         ensures { result.now ≡ self.now.sites.items }
     {
         self.sites.as_slice()
@@ -117,7 +117,7 @@ impl Walk {
     }
 
     /// Notes the sites of a term.
-    pub fn note(&mut self, table: &[LocatedNode])
+    pub(crate) fn note(&mut self, table: &[LocatedNode])
         requires small { length table.now ≤ 4096 }
         requires tree { HoldsTerm (nodes_in table.now) }
         requires formed { shaped (term (nodes_in table.now)) ≡ true }
