@@ -5,6 +5,7 @@ ghost use Rattle.sheet.specs.Uses.{Marks, Marked, FirstUnused};
 
 /// Marks the parts of the next line as used. False if one is not an earlier line, which has a mark in `used`, or is
 /// marked already, by this very line too.
+// A `bool` and no `Result`, as with std's `HashSet::insert`: which refusal it is, is for the caller to say.
 pub(crate) fn mark(parts: &[u16], used: &mut [bool]) -> bool
     ensures { (ws : List ℕ) → Marks used.old ws → ((p : ℕ) → times p ws ≤ 1) → Marked (length used.old) ws parts.now used.new result }
 {
