@@ -5,6 +5,7 @@ use std::marker::Model;
 use terms::Kind;
 
 /// At most eight numbers.
+// An array with a count, and no `Vec`: reading allocates nothing.
 #[derive(Drop)]
 pub(crate) struct Numbers {
     list: [u16; 8],
