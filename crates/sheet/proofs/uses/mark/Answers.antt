@@ -25,6 +25,3 @@ loop-part-preserved c = λ ws m o.
       subst (λ (ys : List ℕ). Fits (length c.args.used.now) ws ys) (sym e) (fits_more _ ws (take i ps) p h.0 (omega (arith, l.0, c.loop-part.auto.used)) z),
       subst (λ (ys : List ℕ). Marks (set c.loop-part.used p true) ys) (sym a) (marks_more c.loop-part.used (ws ++ take i ps) p h.1),
     )
-
-pub returns : goal.returns
-returns c = λ ws m o. subst (λ (ys : List ℕ). Fits (length c.args.used.now) ws ys × Marks c.loop-part.used (ws ++ ys)) (take_all c.loop-part.part-index c.args.parts.now (omega arith)) (c.loop-part.invariant ws m o)

@@ -47,11 +47,3 @@ loop-line-preserved c = (
   (taken (goal.at.loop-line-preserved c).In-Some).next c.index.result.now (cc) _ _ (c.push_all.ensures.items ∙ ap (λ (ns : List ℕ). vec_items c.pop.new.self ++ reverse ns) c.as_slice.ensures.numbers) c.push_reserved-in-Some.ensures.items,
   omega (arith, c.push_reserved-in-Some.ensures.capacity, c.loop-line.invariant.2),
 )
-
-pub returns : goal.returns
-returns c =
-    let n : vec_items c.loop-line.self.pending ≡ [] = nil_from_length (vec_items c.loop-line.self.pending) (omega (arith, c.in_default.ensures.cases.0, c.loop-line.self.pending.ok.0)) in
-    record {
-      tabled = ended (entries (vec_items c.args.self.now.sheet_lines)) (vec_items c.loop-line.self.pending) (vec_items c.loop-line.table) n c.loop-line.invariant.1;
-      room = c.loop-line.invariant.2;
-    }

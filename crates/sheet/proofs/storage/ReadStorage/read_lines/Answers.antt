@@ -16,21 +16,6 @@ use Rattle.sheet.proofs.Times.{times-append}
 use Rattle.sheet.proofs.storage.ReadStorage.read_lines.Goals as goal
 use Rattle.sheet.proofs.storage.ReadStorage.read_lines.Goals.{In-Some, In-Some-and_then, In-None, After-deref}
 
-pub loop-i-init : goal.loop-i-init
-loop-i-init c =
-    let bs : List ℕ = c.args.sheet.now in
-    let e : vec_items c.clear.new.self ≡ [] = c.clear.ensures.items in
-    let d : split_inclusive_rest (enumerate_source c.into_iter-i-iterator.result) ≡ bs = cc in
-    let u : vec_items c.push_reserved.new.self ≡ false ∷ [] = c.push_reserved.ensures.items ∙ ap (λ xs. xs ++ (false ∷ [])) c.clear-2.ensures.items in (
-      search of_calls,
-      search of_calls,
-      subst (λ (xs : List Line). Begins bs (entries xs) (split_inclusive_rest (enumerate_source c.into_iter-i-iterator.result))) (sym e) (subst (λ (xs : List ℕ). Begins bs [] xs) (sym d) (begins bs c.if-not-is_sized.ensures)),
-      subst (λ (us : List Bool). Marks us (used (entries (vec_items c.clear.new.self)))) (sym u)
-          (subst (λ (xs : List Line). Marks (false ∷ []) (used (entries xs))) (sym e) (marks_push [] [] (λ p l. absurd (omega arith)) refl)),
-      omega (arith, c.push_reserved.ensures.len, c.clear-2.ensures.len, c.clear.ensures.len),
-      omega (arith, c.enumerate-i-items.ensures.count, ap enumerate_count c.into_iter-i-iterator.ensures.into_iter_gives, c.clear.ensures.len),
-    )
-
 -- The next line, its number, and what it says.
 line : (c : goal.In-Some) → Piece (split_inclusive_rest (enumerate_source c.loop-i.i-iterator)) c.in-Some.text.now (split_inclusive_rest (enumerate_source c.next.new.self))
 line c = next_line _ (λ x b q k. search (rules, tests)) (enumerate_source c.loop-i.i-iterator) (enumerate_source c.next.new.self) c.in-Some.text c.in-Some.ensures.steps.0
@@ -140,9 +125,3 @@ returns-in-Some-first_unused c =
     let es : List Entry = entries (vec_items c.loop-i.self.sheet_lines) in
     subst (λ (f : Refusal). Refuses c.args.sheet.now f.rule f.line) (sym c.at-in-Some-first_unused.ensures)
     (inr (unused c.args.sheet.now es _ (whole (goal.at.returns-in-Some-first_unused c).In-None) (subst (λ (n : ℕ). LeastUnused n c.in-Some-first_unused.line (used es)) (lines_marked d) (c.in-Some-first_unused.ensures (used es) (marks d)))))
-
-pub returns-in-None-first_unused : goal.returns-in-None-first_unused
-returns-in-None-first_unused c =
-    let d = (goal.at.returns-in-None-first_unused c).After-deref in
-    let es : List Entry = entries (vec_items c.loop-i.self.sheet_lines) in
-    says c.args.sheet.now es (whole (goal.at.returns-in-None-first_unused c).In-None) (subst (λ (n : ℕ). (j : ℕ) → 1 ≤ j → j < n → 1 ≤ times j (used es)) (lines_marked d) (c.in-None-first_unused.ensures (used es) (marks d)))
