@@ -29,20 +29,6 @@ splits b rest e q =
     let p : b ∷ rest ≡ byte e.0 ∷ tabbed (fields e) = q ∙ written_byte e in
     record { initial = cc; follows = cc }
 
--- The letter of a gate stands only before its name.
-gate-name : (k : Kind) (ps ys : List ℕ) → byte k ≡ 103 → Proper (k, ps) → 9 ∷ ys ≡ tabbed (fields (k, ps)) → (g : Gate) × (ys ≡ name g)
-gate-name (Variable p u) ps ys e h q = absurd (omega arith)
-gate-name (Wire w) ps ys e h q = absurd (omega arith)
-gate-name (Constant c) ps ys e h q = absurd (omega arith)
-gate-name (GateNode g) ps ys e h q =
-    let r : ys ≡ name g ++ tabbed (map decimal ps) = cc in
-    (g, r ∙ ap (λ l. name g ++ tabbed (map decimal l)) (nil_from_length ps h.part_count) ∙ append-nil (name g))
-gate-name New ps ys e h q = absurd (omega arith)
-gate-name Bang ps ys e h q = absurd (omega arith)
-gate-name Application ps ys e h q = absurd (omega arith)
-gate-name (Tuple n) ps ys e h q = absurd (omega arith)
-gate-name (Binder n) ps ys e h q = absurd (omega arith)
-
 -- No line is a letter alone.
 some_field : (k : Kind) (ps : List ℕ) → Proper (k, ps) → 0 < length (fields (k, ps))
 some_field (Variable p u) ps h = omega arith
