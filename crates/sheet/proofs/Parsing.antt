@@ -1,8 +1,6 @@
 -- The bytes of a line write an entry exactly if they are parsed as that entry.
 use Rattle.std.proofs.Common.{◌≡◌, ℕ, ◌-◌, ◌<◌, ◌≤◌, List, [], ◌∷◌, ◌++◌, map, length, get_or, take, drop, Some, None, decimal, Option, sym, refl, ap, ◌∙◌, subst, arith}
-use Rattle.std.proofs.lemmas.List.{append-nil, take_rest, length-map, nil_from_length}
-use Rattle.terms.specs.Gate.{name}
-use Rattle.terms.specs.declared.Gate.{Gate}
+use Rattle.std.proofs.lemmas.List.{take_rest, length-map}
 use Rattle.terms.specs.declared.Kind.{Kind}
 use Rattle.terms.specs.declared.Kind.TheVariants.{Variable, Wire, Constant, Gate as GateNode, New, Bang, Application, Tuple, Binder}
 use Rattle.sheet.specs.Entry.{Entry, own, tabbed, written, Each, Proper}

@@ -6,7 +6,7 @@ use Rattle.terms.specs.Flat.{flat, flats, node_of, kind_of, parts}
 use Rattle.terms.specs.declared.Kind.{Kind}
 use Rattle.terms.specs.declared.Node.{Node}
 use Rattle.terms.proofs.Forests.{join, flat-node, flats-join}
-use Rattle.sheet.specs.Entry.{Entry, Each, Proper}
+use Rattle.sheet.specs.Entry.{Entry}
 use Rattle.sheet.specs.Sheet.{Placed, Says}
 use Rattle.sheet.specs.Entries.{entry, entries}
 use Rattle.sheet.specs.Located.{nodes_in, lines_in}

@@ -1,8 +1,5 @@
-use Rattle.std.proofs.Common.{◌≡◌, List, length, vec_items, vec_len, arith}
-use Rattle.std.proofs.lemmas.List.{length-map}
-use Rattle.sheet.specs.Entry.{Entry}
-use Rattle.sheet.specs.Entries.{entry, entries}
-use Rattle.sheet.proofs.Beginning.{few-lines, some_lines}
+use Rattle.std.proofs.Common.{vec_items, arith}
+use Rattle.sheet.specs.Entries.{entries}
 use Rattle.sheet.proofs.Filled.{Filled, filled}
 use Rattle.sheet.proofs.read.Goals as goal
 use Rattle.sheet.proofs.read.Goals.{After-fill_table}

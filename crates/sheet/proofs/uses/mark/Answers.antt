@@ -1,5 +1,5 @@
 use Rattle.std.proofs.Common.{◌≡◌, ℕ, ◌+◌, true, false, List, [], ◌∷◌, ◌++◌, length, get_or, take, set, sym, ap, ◌∙◌, subst, append_assoc, arith}
-use Rattle.std.proofs.lemmas.List.{take_more, take_all}
+use Rattle.std.proofs.lemmas.List.{take_more}
 use Rattle.sheet.specs.Uses.{Marks, Fits}
 use Rattle.sheet.proofs.Marking.{seen, marked_once, unmarked_none, fits_more, marks_more, repeated}
 use Rattle.sheet.proofs.uses.mark.Goals as goal

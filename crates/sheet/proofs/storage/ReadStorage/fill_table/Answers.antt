@@ -1,9 +1,9 @@
 use Rattle.std.proofs.Common.{◌≡◌, ℕ, List, [], ◌∷◌, ◌++◌, length, reverse, vec_items, vec_len, sym, refl, ap, ◌∙◌, arith}
-use Rattle.std.proofs.lemmas.List.{length-map, nil_from_length}
+use Rattle.std.proofs.lemmas.List.{length-map}
 use Rattle.sheet.specs.Entries.{entry, entries}
 use Rattle.sheet.specs.declared.line.Line.{Line}
 use Rattle.sheet.proofs.Beginning.{few-lines}
-use Rattle.sheet.proofs.Stacking.{starts, Turn, turn, ended}
+use Rattle.sheet.proofs.Stacking.{starts, Turn, turn}
 use Rattle.sheet.proofs.storage.ReadStorage.fill_table.Goals as goal
 use Rattle.sheet.proofs.storage.ReadStorage.fill_table.Goals.{In-Some}
 
