@@ -16,14 +16,6 @@ no_zero (d ∷ e ∷ ds) = cond (eqb d 48) false true
 abbrev pub numeral : List ℕ → Option ℕ
 numeral ds = cond (no_zero ds) (digits_from 0 ds) None
 
-pub digits_none : (n : ℕ) (xs : List ℕ) → length xs ≡ 0 → digits_from n xs ≡ Some n
-digits_none n [] h = refl
-digits_none n (x ∷ xs) h = absurd (omega arith)
-
-pub digits_step : (n : ℕ) (xs : List ℕ) → 0 < length xs → is_ascii_digit (get_or xs 0 0) ≡ true → n * 10 + (get_or xs 0 0 - 48) ≤ 4096 → digits_from n xs ≡ digits_from (n * 10 + (get_or xs 0 0 - 48)) (take (length xs - 1) (drop 1 xs))
-digits_step n [] h d l = absurd (omega arith)
-digits_step n (x ∷ xs) h d l = rw (take_rest (x ∷ xs) 1) (let e : leb (n * 10 + (x - 48)) 4096 ≡ true = le-leb _ _ l in rw (d, e) refl)
-
 abbrev read_on : ℕ → List ℕ → ℕ
 read_on n [] = n
 read_on n (c ∷ cs) = read_on (n * 10 + (c - 48)) cs
