@@ -1,9 +1,8 @@
 -- A field is read as a number exactly if it is that number's numeral.
-use Rattle.std.proofs.Common.{◌≡◌, ℕ, ◌+◌, ◌-◌, ◌*◌, ◌<◌, ◌≤◌, Bool, true, false, cond, ◌&&◌, eqb, leb, ◌⊎◌, List, [], ◌∷◌, length, get_or, drop, Some, None, decimal, Option, sym, refl, ap, ◌∙◌, subst, inl, inr, arith, rules}
+use Rattle.std.proofs.Common.{◌≡◌, ℕ, ◌+◌, ◌-◌, ◌*◌, ◌<◌, ◌≤◌, Bool, true, false, cond, ◌&&◌, eqb, leb, ◌⊎◌, List, [], ◌∷◌, length, get_or, Some, None, decimal, Option, sym, refl, ap, ◌∙◌, subst, inl, inr, arith, rules}
 use Rattle.std.specs.Char.{is_ascii_digit}
 use Rattle.std.specs.Str.{all_ascii_digits}
-use Rattle.std.proofs.lemmas.Bool.{le-leb, lt-leb, leb-true, and_parts, and_from, eq-eqb, ne_eqb, both_ways, cases_lt}
-use Rattle.std.proofs.lemmas.List.{drop_more, drop_all}
+use Rattle.std.proofs.lemmas.Bool.{le-leb, leb-true, and_parts, and_from, eq-eqb, ne_eqb, both_ways, cases_lt}
 use Rattle.std.proofs.lemmas.Str.Parse.{IsNumeralModel, numerals_by_fold}
 use Rattle.std.proofs.lemmas.Fmt.{digits_decimal, digits_value-decimal, decimal-digits_value, decimal_nonempty, first_decimal, decimal_digit}
 use Rattle.sheet.specs.Numeral.{digits_from, Numbered, Numeral}
@@ -15,23 +14,6 @@ no_zero (d ∷ e ∷ ds) = cond (eqb d 48) false true
 
 abbrev pub numeral : List ℕ → Option ℕ
 numeral ds = cond (no_zero ds) (digits_from 0 ds) None
-
--- What the digits from the place i on give.
-module _ (n : ℕ) (ds : List ℕ) (i : ℕ) (inside : i < length ds) where
-  first : digits_from n (drop i ds) ≡ digits_from n (get_or ds i 0 ∷ drop (i + 1) ds)
-  first = ap (digits_from n) (drop_more ds i 0 inside)
-
-  pub no_digit : is_ascii_digit (get_or ds i 0) ≡ false → digits_from n (drop i ds) ≡ None
-  no_digit e = first ∙ rw e refl
-
-  pub too_large : is_ascii_digit (get_or ds i 0) ≡ true → 4096 < n * 10 + (get_or ds i 0 - 48) → digits_from n (drop i ds) ≡ None
-  too_large e l = first ∙ rw (e, lt-leb _ _ l) refl
-
-  pub digit_more : is_ascii_digit (get_or ds i 0) ≡ true → n * 10 + (get_or ds i 0 - 48) ≤ 4096 → digits_from n (drop i ds) ≡ digits_from (n * 10 + (get_or ds i 0 - 48)) (drop (i + 1) ds)
-  digit_more e l = first ∙ rw (e, le-leb _ _ l) refl
-
-pub digits_end : (n : ℕ) (ds : List ℕ) (i : ℕ) → length ds ≤ i → digits_from n (drop i ds) ≡ Some n
-digits_end n ds i h = ap (digits_from n) (drop_all i ds h)
 
 abbrev read_on : ℕ → List ℕ → ℕ
 read_on n [] = n

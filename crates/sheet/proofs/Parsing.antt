@@ -1,8 +1,6 @@
 -- The bytes of a line write an entry exactly if they are parsed as that entry.
 use Rattle.std.proofs.Common.{◌≡◌, ℕ, ◌-◌, ◌<◌, ◌≤◌, List, [], ◌∷◌, ◌++◌, map, length, get_or, take, drop, Some, None, decimal, Option, sym, refl, ap, ◌∙◌, subst, arith}
-use Rattle.std.proofs.lemmas.List.{append-nil, take_rest, length-map, nil_from_length}
-use Rattle.terms.specs.Gate.{name}
-use Rattle.terms.specs.declared.Gate.{Gate}
+use Rattle.std.proofs.lemmas.List.{take_rest, length-map}
 use Rattle.terms.specs.declared.Kind.{Kind}
 use Rattle.terms.specs.declared.Kind.TheVariants.{Variable, Wire, Constant, Gate as GateNode, New, Bang, Application, Tuple, Binder}
 use Rattle.sheet.specs.Entry.{Entry, own, tabbed, written, Each, Proper}
@@ -28,20 +26,6 @@ splits : (b : ℕ) (rest : List ℕ) (e : Entry) → b ∷ rest ≡ written e �
 splits b rest e q =
     let p : b ∷ rest ≡ byte e.0 ∷ tabbed (fields e) = q ∙ written_byte e in
     record { initial = cc; follows = cc }
-
--- The letter of a gate stands only before its name.
-gate-name : (k : Kind) (ps ys : List ℕ) → byte k ≡ 103 → Proper (k, ps) → 9 ∷ ys ≡ tabbed (fields (k, ps)) → (g : Gate) × (ys ≡ name g)
-gate-name (Variable p u) ps ys e h q = absurd (omega arith)
-gate-name (Wire w) ps ys e h q = absurd (omega arith)
-gate-name (Constant c) ps ys e h q = absurd (omega arith)
-gate-name (GateNode g) ps ys e h q =
-    let r : ys ≡ name g ++ tabbed (map decimal ps) = cc in
-    (g, r ∙ ap (λ l. name g ++ tabbed (map decimal l)) (nil_from_length ps h.part_count) ∙ append-nil (name g))
-gate-name New ps ys e h q = absurd (omega arith)
-gate-name Bang ps ys e h q = absurd (omega arith)
-gate-name Application ps ys e h q = absurd (omega arith)
-gate-name (Tuple n) ps ys e h q = absurd (omega arith)
-gate-name (Binder n) ps ys e h q = absurd (omega arith)
 
 -- No line is a letter alone.
 some_field : (k : Kind) (ps : List ℕ) → Proper (k, ps) → 0 < length (fields (k, ps))

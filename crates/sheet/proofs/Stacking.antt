@@ -6,14 +6,15 @@ use Rattle.terms.specs.Flat.{flat, flats, node_of, kind_of, parts}
 use Rattle.terms.specs.declared.Kind.{Kind}
 use Rattle.terms.specs.declared.Node.{Node}
 use Rattle.terms.proofs.Forests.{join, flat-node, flats-join}
-use Rattle.sheet.specs.Entry.{Entry, Each, Proper}
-use Rattle.sheet.specs.Sheet.{Placed}
+use Rattle.sheet.specs.Entry.{Entry}
+use Rattle.sheet.specs.Sheet.{Placed, Says}
 use Rattle.sheet.specs.Entries.{entry, entries}
 use Rattle.sheet.specs.Located.{nodes_in, lines_in}
 use Rattle.sheet.specs.Reading.{Line, first_line, later_line, Writes, Write, line, no_parts, more_parts}
 use Rattle.sheet.specs.Tables.{Tabled}
 use Rattle.sheet.specs.declared.line.Line.{Line as CodeLine}
 use Rattle.sheet.specs.declared.located.LocatedNode.{LocatedNode}
+use Rattle.sheet.proofs.Beginning.{few-lines, some_lines}
 use Rattle.sheet.proofs.Times.{few}
 use Rattle.sheet.proofs.Writing.{WrittenTerm, written-term, writes-once, writes-range, line-range}
 
@@ -26,9 +27,9 @@ pub record Underway (es : List Entry) (pending : List ℕ) (table : List Located
   pub nodes_whole : nodes_in table ++ flats terms ≡ flat whole.term
   pub lines-whole : lines_in table ++ left ≡ whole.lines
 
-pub starts : (es : List Entry) (pending : List ℕ) (table : List LocatedNode) → Each Proper es → Placed es → 0 < length es → pending ≡ length es ∷ [] → table ≡ [] → Underway es pending table
-starts es pending table p g h a b =
-    let w = written-term es p g h in
+pub starts : (es : List Entry) (pending : List ℕ) (table : List LocatedNode) → (bs : List ℕ) → Says bs es → pending ≡ length es ∷ [] → table ≡ [] → Underway es pending table
+starts es pending table bs s a b =
+    let w = written-term es s.begins.proper s.begins.placed (some_lines bs es s.begins) in
     record {
       whole = w;
       terms = part w.term none;
@@ -146,23 +147,25 @@ line-entry {n = n} (later_line {n = m} l) (x ∷ xs) d h =
 pub record Turn (xs : List CodeLine) (rest : List ℕ) (n : ℕ) (table : List LocatedNode) : Type 0 where
   pub low : 1 ≤ n
   pub high : n ≤ length xs
+  pub few : length xs ≤ 4096
   pub room : length table < length xs
   pub stack_room : (x : CodeLine) → x ≡ get_or xs (n - 1) x → length rest + length x.parts ≤ length xs
   pub next : (x : CodeLine) → x ≡ get_or xs (n - 1) x → (after : List ℕ) (table' : List LocatedNode) → after ≡ rest ++ reverse x.parts → table' ≡ table ++ (located x.kind n ∷ []) → Underway (entries xs) after table'
 
-pub turn : (xs : List CodeLine) (stack rest : List ℕ) (n : ℕ) (table : List LocatedNode) → Placed (entries xs) → stack ≡ rest ++ (n ∷ []) → Underway (entries xs) stack table → Turn xs rest n table
-turn xs stack rest n table p e u =
+pub turn : (xs : List CodeLine) (stack rest : List ℕ) (n : ℕ) (table : List LocatedNode) → (bs : List ℕ) → Says bs (entries xs) → stack ≡ rest ++ (n ∷ []) → Underway (entries xs) stack table → Turn xs rest n table
+turn xs stack rest n table bs s e u =
     let es : List Entry = entries xs in
     let t = top es stack rest n table e u in
     let r = line-range t.says in
     let m : length es ≡ length xs = length-map xs entry in
-    let w = whole-few es stack table p u in
+    let w = whole-few es stack table s.begins.placed u in
     let l : length u.left ≡ 1 + (length t.lines + length t.left_after) = omega (arith, ap length t.left_is, length-append t.lines t.left_after) in
     let a = write_long t.writes in
     let b = write_long t.writes-after in
     record {
       low = r.0;
       high = omega (arith, r.1);
+      few = omega (arith, few-lines bs es [] s.begins);
       room = omega arith;
       stack_room = λ x d.
           let q : (kind_of t.term, t.below) ≡ entry x = line-entry t.says xs x refl ∙ ap entry (sym d) in

@@ -1,9 +1,8 @@
 //! The lines of a sheet, each tested in turn.
-ghost use Rattle.std.specs.Prelude.{MatchBool};
+ghost use Rattle.std.specs.Prelude.{◌≡◌, MatchBool};
 ghost use Rattle.sheet.specs.Sheet.{line_ends, Sized};
 ghost use Rattle.sheet.specs.Entries.{entries};
 ghost use Rattle.sheet.specs.Lines.{Lined};
-ghost use Rattle.std.specs.Prelude.{◌≡◌};
 
 use crate::parse::line_of;
 use crate::refusal::{Refusal, Rule};

@@ -1,7 +1,6 @@
 //! From the lines of a sheet to the table of its term.
-ghost use Rattle.std.specs.Prelude.{◌≡◌, ◌+◌, ◌<◌, ◌≤◌, ◌++◌, reverse, length, vec_len, vec_capacity};
-ghost use Rattle.sheet.specs.Entry.{Each, Proper};
-ghost use Rattle.sheet.specs.Sheet.{Placed};
+ghost use Rattle.std.specs.Prelude.{◌≡◌, ℕ, ◌+◌, ◌≤◌, List, ◌++◌, reverse, length, vec_len, vec_capacity};
+ghost use Rattle.sheet.specs.Sheet.{Says};
 ghost use Rattle.sheet.specs.Entries.{entries};
 ghost use Rattle.sheet.specs.Tables.{Tabled};
 
@@ -25,10 +24,7 @@ impl ReadStorage {
     /// Puts the nodes of the last line's term into `table`, in the order of their numbers, each with its line.
     /// `pending` is a stack of lines whose terms are still to come.
     pub(crate) fn fill_table(&mut self, table: &mut Vec<LocatedNode>)
-        requires some { 0 < vec_len self.old.sheet_lines }
-        requires few { vec_len self.old.sheet_lines ≤ 4096 }
-        requires proper { Each Proper (entries self.old.sheet_lines.items) }
-        requires placed { Placed (entries self.old.sheet_lines.items) }
+        requires said { (sheet : List ℕ) × Says sheet (entries self.old.sheet_lines.items) }
         requires room { 4096 ≤ vec_capacity table.old }
         ensures tabled { Tabled (entries self.old.sheet_lines.items) table.new.items }
         ensures room { 4096 ≤ vec_capacity table.new }

@@ -1,24 +1,11 @@
-use Rattle.std.proofs.Common.{◌≡◌, List, length, vec_items, vec_len, arith}
-use Rattle.std.proofs.lemmas.List.{length-map}
-use Rattle.sheet.specs.Entry.{Entry}
-use Rattle.sheet.specs.Entries.{entry, entries}
-use Rattle.sheet.proofs.Beginning.{few-lines, some_lines}
+use Rattle.std.proofs.Common.{vec_items, arith}
+use Rattle.sheet.specs.Entries.{entries}
 use Rattle.sheet.proofs.Filled.{Filled, filled}
 use Rattle.sheet.proofs.read.Goals as goal
 use Rattle.sheet.proofs.read.Goals.{After-fill_table}
 
 pub fill_table-requires : goal.fill_table-requires
-fill_table-requires c =
-    let es : List Entry = entries (vec_items c.read_lines.new.self.sheet_lines) in
-    let b = c.in_ok-read_lines.ensures.begins in
-    let n : length es ≡ vec_len c.read_lines.new.self.sheet_lines = omega (arith, length-map (vec_items c.read_lines.new.self.sheet_lines) entry, c.read_lines.new.self.sheet_lines.ok.0) in
-    record {
-      some = omega (arith, some_lines c.args.sheet.now es b);
-      few = omega (arith, few-lines c.args.sheet.now es _ b);
-      proper = b.proper;
-      placed = b.placed;
-      room = c.args.place.now.room;
-    }
+fill_table-requires c = record { said = (c.args.sheet.now, c.in_ok-read_lines.ensures); room = c.args.place.now.room }
 
 -- What the place now holds.
 held : (c : goal.After-fill_table) → Filled (entries (vec_items c.read_lines.new.self.sheet_lines)) (vec_items c.fill_table.new.table)

@@ -1,5 +1,5 @@
 use Rattle.std.proofs.Common.{◌≡◌, ℕ, ◌+◌, true, false, List, [], ◌∷◌, ◌++◌, length, get_or, take, set, sym, ap, ◌∙◌, subst, append_assoc, arith}
-use Rattle.std.proofs.lemmas.List.{take_more, take_all}
+use Rattle.std.proofs.lemmas.List.{take_more}
 use Rattle.sheet.specs.Uses.{Marks, Fits}
 use Rattle.sheet.proofs.Marking.{seen, marked_once, unmarked_none, fits_more, marks_more, repeated}
 use Rattle.sheet.proofs.uses.mark.Goals as goal
@@ -25,6 +25,3 @@ loop-part-preserved c = λ ws m o.
       subst (λ (ys : List ℕ). Fits (length c.args.used.now) ws ys) (sym e) (fits_more _ ws (take i ps) p h.0 (omega (arith, l.0, c.loop-part.auto.used)) z),
       subst (λ (ys : List ℕ). Marks (set c.loop-part.used p true) ys) (sym a) (marks_more c.loop-part.used (ws ++ take i ps) p h.1),
     )
-
-pub returns : goal.returns
-returns c = λ ws m o. subst (λ (ys : List ℕ). Fits (length c.args.used.now) ws ys × Marks c.loop-part.used (ws ++ ys)) (take_all c.loop-part.part-index c.args.parts.now (omega arith)) (c.loop-part.invariant ws m o)

@@ -1,35 +1,20 @@
-use Rattle.std.proofs.Common.{◌≡◌, ℕ, ◌+◌, ◌-◌, ◌<◌, ◌≤◌, Bool, false, List, [], ◌∷◌, ◌++◌, length, take, drop, vec_items, Some, sym, refl, ap, ◌∙◌, subst, inl, inr, arith, rules, tests, of_calls, length-append}
+use Rattle.std.proofs.Common.{◌≡◌, ℕ, ◌+◌, ◌-◌, ◌≤◌, Bool, false, List, [], ◌∷◌, ◌++◌, length, take, drop, vec_items, Some, sym, ap, ◌∙◌, subst, inl, inr, arith, rules, tests, of_calls, length-append}
 use Rattle.std.proofs.lemmas.List.{length-map, map-append, take_all, take-append-le, nil_from_length}
-use Rattle.std.specs.Iterator.Adapters.{enumerate_source, enumerate_count}
+use Rattle.std.specs.Iterator.Adapters.{enumerate_source}
 use Rattle.std.specs.Slice.Iter.{split_inclusive_rest}
 use Rattle.sheet.specs.Entry.{Entry, written}
 use Rattle.sheet.specs.Sheet.{used, times, Begins}
 use Rattle.sheet.specs.Entries.{entry, entries}
 use Rattle.sheet.specs.Reading.{Refuses}
-use Rattle.sheet.specs.Uses.{Marks, Fits, LeastUnused}
+use Rattle.sheet.specs.Uses.{Marks, Marked, LeastUnused}
 use Rattle.sheet.specs.declared.line.Line.{Line}
 use Rattle.sheet.specs.declared.refusal.Refusal.{Refusal}
-use Rattle.sheet.proofs.Beginning.{begins, goes_on, Ended, ended_line, line_first, malformed, misplaced, unused, says, few-lines, last_unused, used_push}
+use Rattle.sheet.proofs.Beginning.{goes_on, Ended, ended_line, line_first, malformed, misplaced, unused, few-lines, last_unused, used_push}
 use Rattle.sheet.proofs.Cutting.{Piece, next_line}
 use Rattle.sheet.proofs.Marking.{marks_push}
 use Rattle.sheet.proofs.Times.{times-append}
 use Rattle.sheet.proofs.storage.ReadStorage.read_lines.Goals as goal
-use Rattle.sheet.proofs.storage.ReadStorage.read_lines.Goals.{In-Some, In-Some-and_then, In-None, After-deref}
-
-pub loop-i-init : goal.loop-i-init
-loop-i-init c =
-    let bs : List ℕ = c.args.sheet.now in
-    let e : vec_items c.clear.new.self ≡ [] = c.clear.ensures.items in
-    let d : split_inclusive_rest (enumerate_source c.into_iter-i-iterator.result) ≡ bs = cc in
-    let u : vec_items c.push_reserved.new.self ≡ false ∷ [] = c.push_reserved.ensures.items ∙ ap (λ xs. xs ++ (false ∷ [])) c.clear-2.ensures.items in (
-      search of_calls,
-      search of_calls,
-      subst (λ (xs : List Line). Begins bs (entries xs) (split_inclusive_rest (enumerate_source c.into_iter-i-iterator.result))) (sym e) (subst (λ (xs : List ℕ). Begins bs [] xs) (sym d) (begins bs c.if-not-is_sized.ensures)),
-      subst (λ (us : List Bool). Marks us (used (entries (vec_items c.clear.new.self)))) (sym u)
-          (subst (λ (xs : List Line). Marks (false ∷ []) (used (entries xs))) (sym e) (marks_push [] [] (λ p l. absurd (omega arith)) refl)),
-      omega (arith, c.push_reserved.ensures.len, c.clear-2.ensures.len, c.clear.ensures.len),
-      omega (arith, c.enumerate-i-items.ensures.count, ap enumerate_count c.into_iter-i-iterator.ensures.into_iter_gives, c.clear.ensures.len),
-    )
+use Rattle.sheet.proofs.storage.ReadStorage.read_lines.Goals.{After-mark, In-Some, In-Some-and_then, In-None, After-deref}
 
 -- The next line, its number, and what it says.
 line : (c : goal.In-Some) → Piece (split_inclusive_rest (enumerate_source c.loop-i.i-iterator)) c.in-Some.text.now (split_inclusive_rest (enumerate_source c.next.new.self))
@@ -67,15 +52,21 @@ fewer : (c : goal.In-Some) (l : Line) → Ended c.in-Some.text.now (Some l) → 
 fewer c l s =
     omega (arith, numbered c, few-lines c.args.sheet.now (entries (vec_items c.loop-i.self.sheet_lines)) _ c.loop-i.invariant.2, ap (times 10) (follows c l s), times-append 10 (written (entry l)) (10 ∷ split_inclusive_rest (enumerate_source c.next.new.self)))
 
+-- What marking the line's parts says of the lines so far.
+marked : (c : goal.After-mark) → Marked (length (entries (vec_items c.loop-i.self.sheet_lines)) + 1) (used (entries (vec_items c.loop-i.self.sheet_lines))) c.in-Some-and_then.line.parts c.mark.new.used c.mark.result
+marked c =
+    let es : List Entry = entries (vec_items c.loop-i.self.sheet_lines) in
+    let m : Marks c.deref_mut.result.now (used es) = subst (λ (us : List Bool). Marks us (used es)) (sym c.deref_mut.ensures.value) c.loop-i.invariant.3 in
+    let n : length c.deref_mut.result.now ≡ length es + 1 = omega (arith, c.deref_mut.ensures.len, c.loop-i.invariant.4, c.loop-i.self.sheet_lines.ok.0, length-map (vec_items c.loop-i.self.sheet_lines) entry) in
+    subst (λ (k : ℕ). Marked k (used es) c.in-Some-and_then.line.parts c.mark.new.used c.mark.result) n
+    (subst (λ (ps : List ℕ). Marked (length c.deref_mut.result.now) (used es) ps c.mark.new.used c.mark.result) c.as_slice.ensures.numbers (c.mark.ensures (used es) m c.loop-i.invariant.2.placed.once))
+
 pub returns-then-not-mark : goal.returns-then-not-mark
 returns-then-not-mark c =
     let i = (goal.at.returns-then-not-mark c).In-Some in
     let s = said (goal.at.returns-then-not-mark c).In-Some-and_then in
     let es : List Entry = entries (vec_items c.loop-i.self.sheet_lines) in
-    let m : Marks c.deref_mut.result.now (used es) = subst (λ (us : List Bool). Marks us (used es)) (sym c.deref_mut.ensures.value) c.loop-i.invariant.3 in
-    let h = c.if-not-mark.ensures (used es) m c.loop-i.invariant.2.placed.once in
-    let n : length c.deref_mut.result.now ≡ length es + 1 = omega (arith, c.deref_mut.ensures.len, c.loop-i.invariant.4, c.loop-i.invariant.5, numbered i, c.in-Some.ensures.steps.1) in
-    let k : Fits (length es + 1) (used es) c.in-Some-and_then.line.parts → ⊥ = λ f. h (subst (λ (k : ℕ). Fits k (used es) c.as_slice.result.now) (sym n) (subst (λ (ps : List ℕ). Fits (length es + 1) (used es) ps) (sym c.as_slice.ensures.numbers) f)) in
+    let k = subst (λ (b : Bool). Marked (length es + 1) (used es) c.in-Some-and_then.line.parts c.mark.new.used b) c.if-not-mark.true (marked (goal.at.returns-then-not-mark c).After-mark) in
     subst (λ (f : Refusal). Refuses c.args.sheet.now f.rule f.line) (sym c.at-then-not-mark.ensures)
     (inl (misplaced c.args.sheet.now es _ _ (entry c.in-Some-and_then.line) _ c.loop-i.invariant.2 (follows i c.in-Some-and_then.line s) s.1 k (omega (arith, numbered i))))
 
@@ -100,16 +91,12 @@ loop-i-preserved c =
     let bs : List ℕ = c.args.sheet.now in
     let es : List Entry = entries (vec_items c.loop-i.self.sheet_lines) in
     let e : Entry = entry c.in-Some-and_then.line in
-    let m : Marks c.deref_mut.result.now (used es) = subst (λ (us : List Bool). Marks us (used es)) (sym c.deref_mut.ensures.value) c.loop-i.invariant.3 in
-    let h = c.if-not-mark.ensures (used es) m c.loop-i.invariant.2.placed.once in
-    let n : length c.deref_mut.result.now ≡ length es + 1 = omega (arith, c.deref_mut.ensures.len, c.loop-i.invariant.4, c.loop-i.invariant.5, numbered i, c.in-Some.ensures.steps.1) in
-    let f : Fits (length es + 1) (used es) e.1 = subst (λ (ps : List ℕ). Fits (length es + 1) (used es) ps) c.as_slice.ensures.numbers (subst (λ (k : ℕ). Fits k (used es) c.as_slice.result.now) n h.0) in
-    let b = goes_on bs es _ _ e c.loop-i.invariant.2 (follows i c.in-Some-and_then.line s) s.1 f in
+    let h = subst (λ (b : Bool). Marked (length es + 1) (used es) e.1 c.mark.new.used b) c.if-not-mark.false (marked (goal.at.loop-i-preserved c).After-mark) in
+    let b = goes_on bs es _ _ e c.loop-i.invariant.2 (follows i c.in-Some-and_then.line s) s.1 h.0 in
     let g : entries (vec_items c.push_reserved-in-loop-i.new.self) ≡ es ++ (e ∷ []) = ap entries c.push_reserved-in-loop-i.ensures.items ∙ map-append entry (vec_items c.loop-i.self.sheet_lines) (c.in-Some-and_then.line ∷ []) in
-    let k : length c.mark.new.used ≡ length (es ++ (e ∷ [])) = omega (arith, c.mark.auto.used, n, length-append es (e ∷ [])) in
+    let k : length c.mark.new.used ≡ length (es ++ (e ∷ [])) = omega (arith, c.mark.auto.used, c.deref_mut.ensures.len, c.loop-i.invariant.4, c.loop-i.self.sheet_lines.ok.0, length-map (vec_items c.loop-i.self.sheet_lines) entry, length-append es (e ∷ [])) in
     let z : times (length c.mark.new.used) (used (es ++ (e ∷ []))) ≡ 0 = ap (λ j. times j (used (es ++ (e ∷ [])))) k ∙ last_unused bs (es ++ (e ∷ [])) _ b in
-    let w : Marks c.mark.new.used (used es ++ e.1) = subst (λ (ps : List ℕ). Marks c.mark.new.used (used es ++ ps)) c.as_slice.ensures.numbers h.1 in
-    let u = marks_push c.mark.new.used (used (es ++ (e ∷ []))) (subst (λ (ws : List ℕ). Marks c.mark.new.used ws) (sym (used_push es e)) w) z in (
+    let u = marks_push c.mark.new.used (used (es ++ (e ∷ []))) (subst (λ (ws : List ℕ). Marks c.mark.new.used ws) (sym (used_push es e)) h.1) z in (
       search of_calls,
       search of_calls,
       subst (λ (ds : List Entry). Begins bs ds (split_inclusive_rest (enumerate_source c.next.new.self))) (sym g) b,
@@ -140,9 +127,3 @@ returns-in-Some-first_unused c =
     let es : List Entry = entries (vec_items c.loop-i.self.sheet_lines) in
     subst (λ (f : Refusal). Refuses c.args.sheet.now f.rule f.line) (sym c.at-in-Some-first_unused.ensures)
     (inr (unused c.args.sheet.now es _ (whole (goal.at.returns-in-Some-first_unused c).In-None) (subst (λ (n : ℕ). LeastUnused n c.in-Some-first_unused.line (used es)) (lines_marked d) (c.in-Some-first_unused.ensures (used es) (marks d)))))
-
-pub returns-in-None-first_unused : goal.returns-in-None-first_unused
-returns-in-None-first_unused c =
-    let d = (goal.at.returns-in-None-first_unused c).After-deref in
-    let es : List Entry = entries (vec_items c.loop-i.self.sheet_lines) in
-    says c.args.sheet.now es (whole (goal.at.returns-in-None-first_unused c).In-None) (subst (λ (n : ℕ). (j : ℕ) → 1 ≤ j → j < n → 1 ≤ times j (used es)) (lines_marked d) (c.in-None-first_unused.ensures (used es) (marks d)))
