@@ -1,5 +1,5 @@
 -- A sheet read line by line.
-use Rattle.std.proofs.Common.{◌≡◌, ℕ, suc, ◌+◌, ◌-◌, ◌<◌, ◌≤◌, true, false, eqb, List, [], ◌∷◌, ◌++◌, length, take, drop, Some, None, Option, MatchOption, sym, refl, ap, ◌∙◌, subst, append_assoc, append-nil, arith, length-append}
+use Rattle.std.proofs.Common.{◌≡◌, ℕ, suc, ◌+◌, ◌-◌, ◌<◌, ◌≤◌, true, false, eqb, List, [], ◌∷◌, ◌++◌, length, take, drop, Some, None, Option, Ok, Err, Result, MatchOption, sym, refl, ap, ◌∙◌, subst, inr, append_assoc, append-nil, arith, length-append}
 use Rattle.std.proofs.lemmas.Bool.{both_ways, and_parts, eqb-true}
 use Rattle.std.proofs.lemmas.List.{append_cancel_right, drop_at, length_push, take-append-drop}
 use Rattle.std.specs.Borrow.{Bor}
@@ -8,7 +8,11 @@ use Rattle.sheet.specs.Entry.{Entry, written, Each, Proper}
 use Rattle.sheet.specs.Entries.{entry, Parses}
 use Rattle.sheet.specs.declared.line.Line.{Line}
 use Rattle.sheet.specs.Sheet.{text, times, Sized, used, Earlier, Begins, Malformed, Misplaced, Unused, Says}
-use Rattle.sheet.specs.Uses.{Fits, LeastUnused}
+use Rattle.sheet.specs.Uses.{Fits, FirstUnused, LeastUnused}
+use Rattle.sheet.specs.Reading.{Refuses}
+use Rattle.sheet.specs.Lines.{Lined}
+use Rattle.sheet.specs.declared.refusal.Refusal.{Refusal}
+use Rattle.sheet.specs.declared.refusal.Rule.TheVariants.{Part}
 use Rattle.sheet.specs.Reader.{Ending, ended, unended, Piece}
 use Rattle.sheet.proofs.Times.{times-append}
 use Rattle.sheet.proofs.Unbroken.{written_unbroken}
@@ -159,3 +163,12 @@ none_used s m (e ∷ es) l h =
 
 pub last_unused : (bs : List ℕ) (es : List Entry) (rest : List ℕ) → Begins bs es rest → times (length es) (used es) ≡ 0
 last_unused bs es rest b = none_used 1 (length es) es (omega arith) b.placed.earlier
+
+-- The answer is this refusal.
+pub refused : (bs : List ℕ) (es : List Entry) (r : Result (Unit {0}) Refusal) {f g : Refusal} → r ≡ Err f → f ≡ g → Refuses bs g.rule g.line → Lined bs r es
+refused bs es r e d h = subst (λ q. Lined bs q es) (sym e) (subst (λ f. Refuses bs f.rule f.line) (sym d) h)
+
+-- All lines are good: each is used, or the first that is not is refused.
+pub all_lined : (bs : List ℕ) (es : List Entry) (o : Option ℕ) (r : Result (Unit {0}) Refusal) → MatchOption o (r ≡ Ok tt) (λ l. r ≡ Err (record { rule = Part; line = l })) → FirstUnused (length es) (used es) o → Begins bs es [] → Lined bs r es
+all_lined bs es None r e f b = subst (λ q. Lined bs q es) (sym e) (says bs es b f)
+all_lined bs es (Some l) r e f b = refused bs es r e refl (inr (unused bs es l b f))

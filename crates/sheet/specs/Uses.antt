@@ -1,5 +1,5 @@
 -- Marks on the lines that are used.
-use Rattle.std.specs.Prelude.{◌≡◌, ℕ, ◌<◌, ◌≤◌, Bool, true, false, List, ◌++◌, length, Some, None, Option, nat_lt, slice_index_or}
+use Rattle.std.specs.Prelude.{◌≡◌, ℕ, ◌<◌, ◌≤◌, Bool, false, List, ◌++◌, length, Some, None, Option, nat_lt, slice_index_or}
 use Rattle.sheet.specs.Entry.{Each}
 use Rattle.sheet.specs.Sheet.{times}
 
@@ -12,9 +12,9 @@ pub record Fits (n : ℕ) (ws ps : List ℕ) : Type 0 where
   pub earlier : Each (λ p. p < n) ps
   pub once : (p : ℕ) → times p (ws ++ ps) ≤ 1
 
-abbrev pub Marked : ℕ → List ℕ → List ℕ → List Bool → Bool → Type 0
-Marked n ws ps us true = Fits n ws ps × Marks us (ws ++ ps)
-Marked n ws ps us false = Fits n ws ps → ⊥
+abbrev pub Marked : ℕ → List ℕ → List ℕ → List Bool → Option (Unit {0}) → Type 0
+Marked n ws ps us (Some u) = Fits n ws ps × Marks us (ws ++ ps)
+Marked n ws ps us None = Fits n ws ps → ⊥
 
 pub record LeastUnused (n k : ℕ) (ws : List ℕ) : Type 0 where
   pub low : 1 ≤ k

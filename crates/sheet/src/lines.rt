@@ -37,18 +37,14 @@ impl ReadStorage {
         self.used.push_reserved(false);
         for (number, text) in Reader::new(sheet) {
             let at = number as u16;
-            let Some(line) = text.strip_suffix(b"\n").and_then(line_of) else {
-                return Err(Rule::Form.at(at));
-            };
-            if !mark(line.parts.as_slice(), &mut self.used) {
-                return Err(Rule::Part.at(at));
-            }
+            let line = text
+                .strip_suffix(b"\n")
+                .and_then(line_of)
+                .ok_or(Rule::Form.at(at))?;
+            mark(line.parts.as_slice(), &mut self.used).ok_or(Rule::Part.at(at))?;
             self.sheet_lines.push_reserved(line);
             self.used.push_reserved(false);
         }
-        match first_unused(&self.used) {
-            Some(line) => Err(Rule::Part.at(line)),
-            None => Ok(()),
-        }
+        Rule::Part.broken_at(first_unused(&self.used))
     }
 }

@@ -1,5 +1,5 @@
 //! Why a program sheet is refused, and where.
-ghost use Rattle.std.specs.Prelude.{◌≡◌, Some};
+ghost use Rattle.std.specs.Prelude.{◌≡◌, Some, MatchOption};
 ghost use Rattle.sheet.specs.Refusal.{number, reason, told};
 
 use std::error::Error;
@@ -44,6 +44,13 @@ impl Rule {
         ensures { result ≡ record { rule = self; line = line } }
     {
         Refusal { rule: self, line }
+    }
+
+    /// The refusal at the line that breaks the rule, if there is one.
+    pub fn broken_at(self, line: Option<u16>) -> Result<(), Refusal>
+        ensures { MatchOption line (result ≡ Ok tt) (λ l. result ≡ Err (record { rule = self; line = l })) }
+    {
+        line.map_or(Ok(()), |line| Err(self.at(line)))
     }
 }
 

@@ -4,6 +4,8 @@ ghost use Rattle.std.specs.Prelude.{◌≤◌, vec_capacity};
 use crate::line::Line;
 
 /// Room for the lines of a sheet, the marks of those that are used, and a stack of lines.
+// The marks stand beside the lines and not in them: they are tested and set as a slice, in which a mark for no line comes
+// first, so that the number of a part is the place of its mark.
 #[derive(Drop)]
 pub struct ReadStorage {
     pub(crate) sheet_lines: Vec<Line>,

@@ -3,20 +3,19 @@ ghost use Rattle.std.specs.Prelude.{◌≡◌, ℕ, ◌-◌, ◌≤◌, List, le
 ghost use Rattle.sheet.specs.Sheet.{times};
 ghost use Rattle.sheet.specs.Uses.{Marks, Marked, FirstUnused};
 
-/// Marks the parts of the next line as used. False if one is not an earlier line, which has a mark in `used`, or is
+/// Marks the parts of the next line as used. None if one is not an earlier line, which has a mark in `used`, or is
 /// marked already, by this very line too.
-// A `bool` and no `Result`, as with std's `HashSet::insert`: which refusal it is, is for the caller to say.
-pub(crate) fn mark(parts: &[u16], used: &mut [bool]) -> bool
+pub(crate) fn mark(parts: &[u16], used: &mut [bool]) -> Option<()>
     ensures { (ws : List ℕ) → Marks used.old ws → ((p : ℕ) → times p ws ≤ 1) → Marked (length used.old) ws parts.now used.new result }
 {
     for part in parts {
         let part = *part as usize;
         match used.get(part) {
             Some(false) => used[part] = true,
-            _ => return false,
+            _ => return None,
         }
     }
-    true
+    Some(())
 }
 
 /// The first line from 1 on, the last excepted, that is not marked.

@@ -4,9 +4,6 @@ use Rattle.sheet.proofs.Filled.{Filled, filled}
 use Rattle.sheet.proofs.read.Goals as goal
 use Rattle.sheet.proofs.read.Goals.{After-fill_table}
 
-pub fill_table-requires : goal.fill_table-requires
-fill_table-requires c = record { said = (c.args.sheet.now, c.in_ok-read_lines.ensures); room = c.args.place.now.room }
-
 -- What the place now holds.
 held : (c : goal.After-fill_table) → Filled (entries (vec_items c.read_lines.new.self.sheet_lines)) (vec_items c.fill_table.new.table)
 held c = filled c.args.sheet.now (entries (vec_items c.read_lines.new.self.sheet_lines)) (vec_items c.fill_table.new.table) c.in_ok-read_lines.ensures.begins c.fill_table.ensures.tabled
