@@ -22,7 +22,7 @@ fn letter(kind: Kind) -> char
     }
 }
 
-/// How many nodes there are of the kind with this letter.
+/// How many nodes there are of the kind with this letter. A walk for each letter is short: a program has 4,096 nodes at most.
 pub fn count_kind(table: &[LocatedNode], of: char) -> usize
     ensures { result ≡ count_by (λ x. letter_of x.node.kind == of) table.now }
 {

@@ -1,5 +1,5 @@
 //! The chip machine at its limits.
-use crate::granted;
+use crate::{granted, wire};
 use chip::chip_machine;
 use machines::machine::GateMachine;
 use machines::operation::GateRefusal;
@@ -58,7 +58,7 @@ fn couplings(rt: HostRuntime) -> Result<(), Fail> {
     for (gate, numbers, answer) in COUPLED {
         let wires: Vec<Wire> = numbers
             .iter()
-            .map(|number| Wire::new(*number).ok_or_else(|| Fail::new("no such wire")))
+            .map(|number| wire(*number))
             .try_collect(rt.alloc())?;
         let mut machine = chip_machine(0xff, 1, table);
         assert_eq!(rt; machine.apply(gate, wires.as_slice()), answer);

@@ -1,10 +1,10 @@
 //! The counting machine at its limits.
-use crate::granted;
+use crate::{granted, wire};
 use machines::machine::GateMachine;
 use machines::operation::{Action, GateRefusal, Operands, Operation};
 use numbered::counting::counting_machine;
 use std::test::Fail;
-use terms::{Gate, Wire};
+use terms::Gate;
 
 /// Start, most wires and most operations, and the first wire granted.
 const FIRST: [(u32, u32, u32, Option<u16>); 10] = [
@@ -42,8 +42,7 @@ fn wires_held_at_first(rt: HostRuntime) -> Result<(), Fail> {
     for (start, most_wires, end) in HELD {
         let machine = counting_machine(start, most_wires, 0);
         for number in 0..4096 {
-            let wire = Wire::new(number).ok_or("no such wire")?;
-            assert_eq!(rt; machine.holds(wire), number < end);
+            assert_eq!(rt; machine.holds(wire(number)?), number < end);
         }
     }
     Ok(())
@@ -51,9 +50,9 @@ fn wires_held_at_first(rt: HostRuntime) -> Result<(), Fail> {
 
 #[test]
 fn refusals_in_order(rt: HostRuntime) -> Result<(), Fail> {
-    let zero = Wire::new(0).ok_or("no such wire")?;
-    let one = Wire::new(1).ok_or("no such wire")?;
-    let nine = Wire::new(9).ok_or("no such wire")?;
+    let zero = wire(0)?;
+    let one = wire(1)?;
+    let nine = wire(9)?;
     let mut full = counting_machine(2, 2, 0);
     assert_eq!(rt; full.apply(Gate::Cx, &[zero, zero]), Err(GateRefusal::Full));
     let mut machine = counting_machine(2, 2, 1);

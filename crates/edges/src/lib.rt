@@ -3,6 +3,10 @@
 
 #[cfg(test)]
 use machines::machine::GateMachine;
+#[cfg(test)]
+use std::test::Fail;
+#[cfg(test)]
+use terms::Wire;
 
 #[cfg(test)]
 mod charges;
@@ -17,4 +21,10 @@ mod lists;
 #[cfg(test)]
 fn granted<M: GateMachine>(machine: &mut M, constant: bool) -> Option<u16> {
     machine.grant(constant).ok().map(|wire| wire.number())
+}
+
+// The wire of this number.
+#[cfg(test)]
+fn wire(number: u16) -> Result<Wire, Fail> {
+    Ok(Wire::new(number).ok_or("no such wire")?)
 }

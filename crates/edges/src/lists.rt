@@ -1,9 +1,10 @@
 //! The list machine at its limits.
+use crate::wire;
 use machines::machine::GateMachine;
 use machines::operation::{Action, Full, GateRefusal, Operands, Operation};
 use numbered::list::list_machine;
 use std::test::Fail;
-use terms::{Gate, Wire};
+use terms::Gate;
 
 #[test]
 fn an_empty_list_is_full(rt: HostRuntime) {
@@ -16,9 +17,9 @@ fn an_empty_list_is_full(rt: HostRuntime) {
 
 #[test]
 fn records_fill_the_front(rt: HostRuntime) -> Result<(), Fail> {
-    let zero = Wire::new(0).ok_or("no such wire")?;
-    let one = Wire::new(1).ok_or("no such wire")?;
-    let nine = Wire::new(9).ok_or("no such wire")?;
+    let zero = wire(0)?;
+    let one = wire(1)?;
+    let nine = wire(9)?;
     let blank = Operation {
         action: Action::Gate(Gate::Z),
         operands: Operands::One(nine),

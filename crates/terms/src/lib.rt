@@ -64,8 +64,8 @@ impl Gate {
 }
 
 /// A wire, by its number, 0 to 4,095.
-// The bound is no ghost field and the number no `Model`: terms in specs/ have wires of any number, and `Shaped` tells which
-// are in range; and a `Copy` type that holds one with a `Model` is not copied where it is passed and used again.
+// No ghost field for the bound: in specs/ a term may name any number, and `Shaped` says which are wires. No `Model`: a `Copy`
+// struct with a field that has one cannot be used again after it is passed.
 #[derive(Clone, Copy, PartialEq, Eq, Debug)]
 pub struct Wire {
     number: u16,
@@ -77,11 +77,7 @@ impl Wire {
     pub fn new(number: u16) -> Option<Wire>
         ensures { MatchOption result (4096 ≤ number) (λ w. (number < 4096) × (w.number ≡ number)) }
     {
-        if number < 4096 {
-            Some(Wire { number })
-        } else {
-            None
-        }
+        (number < 4096).then_some(Wire { number })
     }
 
     /// The wire's number.
