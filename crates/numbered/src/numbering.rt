@@ -20,6 +20,7 @@ impl Numbering {
     ghost use Rattle.std.specs.Prelude.{◌≡◌, min};
 
     /// Holds the wires below `start`. More than 4,096 wires count as 4,096, and a start over the most wires as these.
+    // No struct for the two numbers, which all makers of machines hand on: it would be taken apart here alone.
     pub fn new(start: u32, most: u32) -> Numbering
         ensures next { result.next ≡ min start (min most wire_count) }
         ensures most { result.most ≡ min most wire_count }
