@@ -67,7 +67,7 @@ impl CheckStorage {
 fn verdict(program: &Program, storage: &mut CheckStorage) -> Result<(), Refusal>
     ensures { Decided result program.now }
 {
-    storage.walk.note(program.table().as_slice());
+    storage.walk.note(program);
     storage.judge()
 }
 

@@ -1,8 +1,7 @@
 //! A walk over a program's table that notes what the rules need to know of each node.
 ghost use Rattle.std.specs.Prelude.{◌≡◌, ◌+◌, ◌<◌, ◌≤◌, true, [], length, reverse, take, drop, vec_len, vec_capacity, All};
 ghost use Rattle.terms.specs.Term.{Terms, count, sizes};
-ghost use Rattle.terms.specs.Parse.{term, HoldsTerm};
-ghost use Rattle.terms.specs.Shape.{shaped};
+ghost use Rattle.sheet.specs.Reading.{term_of, lines_of};
 ghost use Rattle.sheet.specs.Located.{nodes_in, lines_in};
 ghost use Rattle.checker.specs.Sites.{Forest, Stand, resolve, role_at, sites, sitess, Walked};
 ghost use Rattle.checker.specs.Found.{roles, site_lines};
@@ -10,6 +9,7 @@ ghost use Rattle.checker.specs.Found.{roles, site_lines};
 use crate::role::{Frame, Role};
 use crate::site::Site;
 use sheet::located::LocatedNode;
+use sheet::program::Program;
 use std::alloc::{AllocError, Global};
 use terms::{Kind, Node};
 
@@ -116,16 +116,13 @@ impl Walk {
         }
     }
 
-    /// Notes the sites of a term.
-    pub(crate) fn note(&mut self, table: &[LocatedNode])
-        requires small { length table.now ≤ 4096 }
-        requires tree { HoldsTerm (nodes_in table.now) }
-        requires formed { shaped (term (nodes_in table.now)) ≡ true }
-        ensures roles { roles self.new.sites.items ≡ sites [] 0 0 (term (nodes_in table.now)) }
-        ensures lines { site_lines self.new.sites.items ≡ lines_in table.now }
+    /// Notes the sites of a program's term.
+    pub(crate) fn note(&mut self, program: &Program)
+        ensures roles { roles self.new.sites.items ≡ sites [] 0 0 (term_of program.now) }
+        ensures lines { site_lines self.new.sites.items ≡ lines_of program.now }
     {
         self.frames.clear();
         self.sites.clear();
-        let _end = self.note_terms(table, 0, 1, 0);
+        let _end = self.note_terms(program.table().as_slice(), 0, 1, 0);
     }
 }
