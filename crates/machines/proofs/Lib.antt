@@ -1,3 +1,4 @@
 pub mod Counts
+pub mod Kept
 pub mod Operands
 pub mod Writing

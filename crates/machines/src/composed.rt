@@ -45,12 +45,17 @@ impl<W: Wires, J: Journal> Machine<W, J> {
 
 impl<W> Machine<W, Last> {
     ghost use Rattle.std.specs.Option.{option_map};
+    ghost use Rattle.machines.specs.Kept.{kept};
 
     /// The last operation, if there was one.
     pub fn last(&self) -> Option<&Operation>
-        ensures { option_map (λ x. x.now) result ≡ self.now.journal.operation }
+        ensures { option_map (λ x. x.now) result ≡ kept self.now.made self.now.journal.operation }
     {
-        self.journal.operation()
+        if self.made == 0 {
+            None
+        } else {
+            self.journal.operation()
+        }
     }
 }
 
