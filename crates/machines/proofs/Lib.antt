@@ -1,4 +1,3 @@
 pub mod Counts
-pub mod Kept
 pub mod Operands
 pub mod Writing

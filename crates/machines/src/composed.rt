@@ -1,5 +1,5 @@
 //! Machines that are composed of their wires and of a journal.
-ghost use Rattle.std.specs.Prelude.{◌≡◌, ◌+◌, ◌<◌, ◌≤◌, ◌↔◌, length, IsOk, OnOk};
+ghost use Rattle.std.specs.Prelude.{◌≡◌, ◌+◌, ◌<◌, ◌≤◌, ◌↔◌, length, None, IsOk, OnOk};
 
 use crate::journal::{Journal, Last};
 use crate::machine::GateMachine;
@@ -22,6 +22,7 @@ impl<W: Wires, J: Journal> Machine<W, J> {
         ensures wires { result.wires ≡ wires }
         ensures made { result.made ≡ 0 }
         ensures journal { result.journal ≡ journal }
+        ensures last { J.last result.journal result.made ≡ None }
     {
         Machine {
             wires,

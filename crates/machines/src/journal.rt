@@ -88,7 +88,6 @@ impl Journal for Last {
         self.most
     }
 
-    #[tactic(auto, using(crate::proofs::Kept::kept_more))]
     fn write(&mut self, made: usize, operation: Operation) -> Result<(), Full> {
         if made >= self.most {
             return Err(Full);
