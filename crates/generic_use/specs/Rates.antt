@@ -1,5 +1,5 @@
 -- A tariff whose prices are data.
-use Rattle.std.specs.Prelude.{ℕ, slice_index}
+use Rattle.std.specs.Prelude.{ℕ}
 use Rattle.terms.specs.declared.StepKind.{StepKind}
 use Rattle.tariffs.specs.Money.{amount, sum}
 use Rattle.tariffs.specs.Prices.{listed}
@@ -9,7 +9,7 @@ use Rattle.generic_use.specs.declared.rates.Rates.{Rates}
 
 -- Classical steps are free.
 abbrev pub rate_of : Rates → StepKind → ℕ
-rate_of r = listed (record { classical = 0; grant = r.grant; one = slice_index r.gates 0; two = slice_index r.gates 1; three = slice_index r.gates 2 })
+rate_of r = listed (record { classical = 0; grant = r.grant; gates = r.gates })
 
 abbrev pub rates : Rates → Prices Cents
 rates r = record { zero = amount 0; join = sum; charge = λ k. amount (rate_of r k) }

@@ -22,14 +22,12 @@ impl Rates {
     pub fn rate(&self, kind: StepKind) -> u32
         ensures { result ≡ rate_of self.now kind }
     {
-        let prices = PriceList {
+        PriceList {
             classical: 0,
             grant: self.grant,
-            one: self.gates[0],
-            two: self.gates[1],
-            three: self.gates[2],
-        };
-        prices.of(kind)
+            gates: self.gates,
+        }
+        .of(kind)
     }
 }
 

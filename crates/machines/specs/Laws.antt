@@ -1,12 +1,14 @@
 -- That composed machines are lawful, and that operations can follow one another. These are proofs, for the prover and not for
 -- the reader; they stand here since the ghost members of machines and journals name them.
-use Rattle.std.specs.Prelude.{◌≡◌, ℕ, ◌+◌, List, [], ◌∷◌, ◌++◌, length, drop, Option, refl}
+use Rattle.std.specs.Prelude.{◌≡◌, ℕ, ◌+◌, List, [], ◌∷◌, ◌++◌, length, drop, None, Option, refl}
 use Rattle.std.specs.Borrow.{MutBor}
+use Rattle.std.specs.Option.{option_map}
 use Rattle.std.proofs.Common.{sym, ap, ◌∙◌, subst, append-nil, append_assoc, add_assoc, add-zero, length-append, drop-drop}
 use Rattle.machines.specs.Composed.{composed}
-use Rattle.machines.specs.Listing.{written, unwritten, Writes}
+use Rattle.machines.specs.Kept.{kept}
+use Rattle.machines.specs.Listing.{list_last, written, unwritten, Writes}
 use Rattle.machines.specs.Machine.{Lawful}
-use Rattle.machines.specs.Operation.{Operation, granted_by, granted_wires}
+use Rattle.machines.specs.Operation.{Operation, granted_by, granted_wires, told}
 use Rattle.machines.specs.Wires.{Supply, Bounded}
 use Rattle.machines.specs.declared.operation.Operation.{Operation as Record}
 use Rattle.machines.specs.declared.journal.Last.{Last}
@@ -32,11 +34,17 @@ pub count_goes : {A : Type 0} (a b c : ℕ) (xs ys : List A) → b ≡ a + lengt
 count_goes a b c xs ys e f =
     f ∙ ap (λ n. n + length ys) e ∙ add_assoc a (length xs) (length ys) ∙ ap (λ n. a + n) (sym (length-append xs ys))
 
+pub last_fresh : (x : Last) → option_map told (kept 0 x.operation) ≡ None
+last_fresh x = refl
+
 pub last_stays : (x : Last) (n : ℕ) → x.most ≡ x.most
 last_stays x n = refl
 
 pub last_goes : (x y z : Last) (n m : ℕ) (os ps : List Operation) → m ≡ n + length os → y.most ≡ x.most → z.most ≡ y.most → z.most ≡ x.most
 last_goes x y z n m os ps e a b = b ∙ a
+
+pub writes_fresh : (x : MutBor (List Record)) → list_last x 0 ≡ None
+writes_fresh x = refl
 
 pub writes_stay : (x : MutBor (List Record)) (n : ℕ) → Writes x n [] x
 writes_stay x n = record { adds = ap (written x) (add-zero n) ∙ sym (append-nil (written x n)); leaves = ap (unwritten x) (add-zero n); loan = refl }

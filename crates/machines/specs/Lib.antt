@@ -1,6 +1,7 @@
 pub mod Operation
 pub mod Machine
 pub mod Wires
+pub mod Kept
 pub mod Listing
 pub mod Composed
 pub mod Laws

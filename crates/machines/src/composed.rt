@@ -1,5 +1,5 @@
 //! Machines that are composed of their wires and of a journal.
-ghost use Rattle.std.specs.Prelude.{◌≡◌, ◌+◌, ◌<◌, ◌≤◌, ◌↔◌, length, IsOk, OnOk};
+ghost use Rattle.std.specs.Prelude.{◌≡◌, ◌+◌, ◌<◌, ◌≤◌, ◌↔◌, length, None, IsOk, OnOk};
 
 use crate::journal::{Journal, Last};
 use crate::machine::GateMachine;
@@ -22,6 +22,7 @@ impl<W: Wires, J: Journal> Machine<W, J> {
         ensures wires { result.wires ≡ wires }
         ensures made { result.made ≡ 0 }
         ensures journal { result.journal ≡ journal }
+        ensures last { J.last result.journal result.made ≡ None }
     {
         Machine {
             wires,
@@ -45,12 +46,17 @@ impl<W: Wires, J: Journal> Machine<W, J> {
 
 impl<W> Machine<W, Last> {
     ghost use Rattle.std.specs.Option.{option_map};
+    ghost use Rattle.machines.specs.Kept.{kept};
 
     /// The last operation, if there was one.
     pub fn last(&self) -> Option<&Operation>
-        ensures { option_map (λ x. x.now) result ≡ self.now.journal.operation }
+        ensures { option_map (λ x. x.now) result ≡ kept self.now.made self.now.journal.operation }
     {
-        self.journal.operation()
+        if self.made == 0 {
+            None
+        } else {
+            self.journal.operation()
+        }
     }
 }
 

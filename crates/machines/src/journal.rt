@@ -31,6 +31,9 @@ pub trait Journal {
         ensures writes { OnOk result (writes self.old made (told operation ∷ []) self.new) }
         ensures full { OnErr result (self.new ≡ self.old) };
 
+    /// Before the first operation there is no last one.
+    ghost fresh: { (x : Self) → last x 0 ≡ None };
+
     /// No operation can be written.
     ghost stays: { (x : Self) (n : ℕ) → writes x n [] x };
 
@@ -65,13 +68,17 @@ impl Last {
 }
 
 impl Journal for Last {
+    ghost use Rattle.machines.specs.Kept.{kept};
+
     ghost most = { λ x. x.most };
 
-    ghost last = { λ x _. option_map told x.operation };
+    ghost last = { λ x n. option_map told (kept n x.operation) };
 
     ghost writes = { λ x _ _ y. y.most ≡ x.most };
 
-    ghost use Rattle.machines.specs.Laws.{last_stays, last_goes};
+    ghost use Rattle.machines.specs.Laws.{last_fresh, last_stays, last_goes};
+
+    ghost fresh = { last_fresh };
 
     ghost stays = { last_stays };
 
@@ -92,16 +99,19 @@ impl Journal for Last {
 
 /// A list that was lent: each operation is written into it, from its front on. There can be as many operations as it has
 /// records, of which more than 2,000,000 count as 2,000,000.
-// The count is the machine's, and no struct holds it with the list: where a loan inside such a struct ends, no proof sees it.
+// No struct of the list and its count: tried, and the proof did not close, since the end of a loan is tied to a `&mut` that is
+// a field of the machine itself, not of a struct in it.
 impl<'a> Journal for &'a mut [Operation] {
     ghost use Rattle.machines.specs.Listing.{list_most, list_last, Writes};
-    ghost use Rattle.machines.specs.Laws.{writes_stay, writes_go};
+    ghost use Rattle.machines.specs.Laws.{writes_fresh, writes_stay, writes_go};
 
     ghost most = { list_most };
 
     ghost last = { list_last };
 
     ghost writes = { Writes };
+
+    ghost fresh = { writes_fresh };
 
     ghost stays = { writes_stay };
 

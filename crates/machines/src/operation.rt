@@ -54,6 +54,7 @@ impl From<Full> for GateRefusal {
 
 impl Operands {
     /// One, two or three wires as operands.
+    // No `TryFrom`: `None` says all that an error could.
     pub fn of(wires: &[Wire]) -> Option<Operands>
         ensures { Listed wires.now result }
     {

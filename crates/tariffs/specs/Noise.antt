@@ -1,5 +1,5 @@
 -- The tariff of noise grades.
-use Rattle.std.specs.Prelude.{ℕ, ◌≤◌, max, min}
+use Rattle.std.specs.Prelude.{[], ◌∷◌, ℕ, ◌≤◌, max, min}
 use Rattle.std.proofs.Math.Nat.{min-le_right, max-le}
 use Rattle.terms.specs.declared.StepKind.{StepKind}
 use Rattle.tariffs.specs.Prices.{listed}
@@ -8,7 +8,7 @@ use Rattle.tariffs.specs.declared.grade.Grade.{Grade}
 
 -- Classical steps and grants have grade 0, and a gate has 1, 4 or 9 by its width.
 abbrev pub grade_of : StepKind → ℕ
-grade_of = listed (record { classical = 0; grant = 0; one = 1; two = 4; three = 9 })
+grade_of = listed (record { classical = 0; grant = 0; gates = 1 ∷ (4 ∷ (9 ∷ [])) })
 
 -- A number as a grade: one over 9 counts as 9.
 pub limited : (n : ℕ) → min n 9 ≤ 9

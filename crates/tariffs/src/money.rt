@@ -15,9 +15,7 @@ pub struct Money;
 const PRICES: PriceList<u64> = PriceList {
     classical: 0,
     grant: 300,
-    one: 10,
-    two: 40,
-    three: 150,
+    gates: [10, 40, 150],
 };
 
 impl Tariff for Money {

@@ -15,9 +15,7 @@ pub struct Noise;
 const GRADES: PriceList<u8> = PriceList {
     classical: 0,
     grant: 0,
-    one: 1,
-    two: 4,
-    three: 9,
+    gates: [1, 4, 9],
 };
 
 impl Tariff for Noise {

@@ -5,14 +5,11 @@ ghost use Rattle.tariffs.specs.Prices.{listed};
 use terms::StepKind;
 
 /// The prices of the classical steps, of a grant, and of gates by their width.
-// No array of three, since a generic struct may hold none of a type parameter.
 #[derive(Clone, Copy)]
 pub struct PriceList<T> {
     pub classical: T,
     pub grant: T,
-    pub one: T,
-    pub two: T,
-    pub three: T,
+    pub gates: [T; 3],
 }
 
 impl<T: Copy> PriceList<T> {
@@ -24,9 +21,9 @@ impl<T: Copy> PriceList<T> {
             StepKind::Single | StepKind::Tuple | StepKind::Bang => self.classical,
             StepKind::Grant(_) => self.grant,
             StepKind::Gate(gate) => match gate.width() {
-                1 => self.one,
-                2 => self.two,
-                _ => self.three,
+                1 => self.gates[0],
+                2 => self.gates[1],
+                _ => self.gates[2],
             },
         }
     }
