@@ -10,7 +10,7 @@ ghost use Rattle.checker.specs.Verdict.{Decided, Checked, VerdictIsDetermined};
 use accepted::AcceptedProgram;
 use counts::UseCounts;
 use firsts::FirstLines;
-use rules::{first_line, unbroken};
+use rules::first_line;
 use sheet::program::Program;
 use sheet::refusal::{Refusal, Rule};
 use site::Site;
@@ -52,14 +52,11 @@ impl CheckStorage {
         ensures { Judged (roles self.old.walk.sites.items) (site_lines self.old.walk.sites.items) result }
     {
         let sites = self.walk.sites();
-        unbroken(Rule::Unbound, first_line(sites, Site::is_unbound))?;
+        Rule::Unbound.broken_at(first_line(sites, Site::is_unbound))?;
         self.counts.count(sites);
-        unbroken(
-            Rule::Misused,
-            first_line(sites, |site| self.counts.is_misused(site)),
-        )?;
-        unbroken(Rule::Shut, first_line(sites, Site::is_shut))?;
-        unbroken(Rule::Repeated, self.firsts.first_repeated(sites))
+        Rule::Misused.broken_at(first_line(sites, |site| self.counts.is_misused(site)))?;
+        Rule::Shut.broken_at(first_line(sites, Site::is_shut))?;
+        Rule::Repeated.broken_at(self.firsts.first_repeated(sites))
     }
 }
 
