@@ -13,7 +13,7 @@ use Rattle.checker.specs.declared.role.Frame.{Frame}
 use Rattle.checker.specs.declared.role.Role.{Role}
 use Rattle.checker.specs.declared.site.Site.{Site}
 use Rattle.checker.specs.declared.role.Role.TheVariants.{Other, Opening}
-use Rattle.checker.specs.Sites.{Forest, resolve, role_at, sites, sitess, Walked}
+use Rattle.checker.specs.Sites.{Forest, Stand, resolve, role_at, sites, sitess, Walked}
 use Rattle.checker.specs.Faults.{Scope, frame}
 use Rattle.checker.specs.Roles.{Ranged}
 use Rattle.checker.specs.Found.{roles, site_lines}
@@ -172,6 +172,13 @@ role-ranged F b at (app f x) a l h = tt
 role-ranged F b at (tuple ts) a l h = tt
 role-ranged F b at (abs n t) a l h = (l, h.0)
 
+-- Where terms stand, by an equal number.
+pub stand_at : {xs : List Node} {m n k : ℕ} → m ≡ n → Stand xs m k → Stand xs n k
+stand_at {xs = xs} {k = k} e s = subst (λ i. Stand xs i k) e s
+
+pub forest_at : (xs : List Node) (m n : ℕ) (ts : Terms) → m ≡ n → Forest (drop m xs) ts → Forest (drop n xs) ts
+forest_at xs m n ts e f = subst (λ i. Forest (drop i xs) ts) e f
+
 -- Where a term is left to read, the table goes on,
 pub goes_on : (table : List LocatedNode) (at n : ℕ) → (n ≡ 0 → ⊥) → (ts : Terms) → Forest (drop at (nodes_in table)) ts → count ts ≡ n → at < length table
 goes_on table at n z none f m = absurd (z (sym m))
@@ -242,7 +249,7 @@ pub record Same (old new : Vec Frame Global) : Type 0 where
   pub items : vec_items new ≡ vec_items old
   pub len : vec_len new ≡ vec_len old
 
-pub same_frames : {stop r : ℕ} {ys : List Role} {old new : Vec Site Global} {F K : Vec Frame Global} → Walked stop ys r old new F K → Same F K
+pub same_frames : {ys : List Role} {old new : Vec Site Global} {F K : Vec Frame Global} → Walked ys old new F K → Same F K
 same_frames e = record { items = e.frames; len = e.frames_len }
 
 -- A frame is put on the stack, and taken off after a walk.
@@ -252,45 +259,57 @@ popped F F1 F2 F3 f p l s t =
     let e : vec_items F3 ≡ vec_items F = t ∙ rw (n, s.items, p) (take_at (vec_items F) (f ∷ []) (vec_len F) (sym F.ok.0)) in
     record { items = e; len = omega (arith, ap length e, F.ok.0, F3.ok.0) }
 
-after_push : {stop r : ℕ} {x : Role} {ys : List Role} {old mid last : Vec Site Global} {F K : Vec Frame Global} → Noted x old mid → Walked stop ys r mid last F K → Walked stop (x ∷ ys) r old last F K
+after_push : {x : Role} {ys : List Role} {old mid last : Vec Site Global} {F K : Vec Frame Global} → Noted x old mid → Walked ys mid last F K → Walked (x ∷ ys) old last F K
 after_push {ys = ys} {old = old} p e =
-    record { ends = e.ends; as_roles = e.as_roles ∙ rw p.as_roles (append_assoc (roles (vec_items old)) _ ys); len = omega (arith, p.len, e.len); frames = e.frames; frames_len = e.frames_len }
+    record { as_roles = e.as_roles ∙ rw p.as_roles (append_assoc (roles (vec_items old)) _ ys); len = omega (arith, p.len, e.len); frames = e.frames; frames_len = e.frames_len }
 
-after_walk : {stop halt r q : ℕ} {ys zs : List Role} {old mid last : Vec Site Global} {F F1 F2 F3 K : Vec Frame Global} → Same F F3 → Walked halt ys q old mid F1 F2 → Walked stop zs r mid last F3 K → Walked stop (ys ++ zs) r old last F K
+after_walk : {ys zs : List Role} {old mid last : Vec Site Global} {F F1 F2 F3 K : Vec Frame Global} → Same F F3 → Walked ys old mid F1 F2 → Walked zs mid last F3 K → Walked (ys ++ zs) old last F K
 after_walk {ys = ys} {zs = zs} {old = old} s p e =
-    record { ends = e.ends; as_roles = e.as_roles ∙ rw p.as_roles (append_assoc (roles (vec_items old)) ys zs); len = omega (arith, p.len, e.len, length-append ys zs); frames = e.frames ∙ s.items; frames_len = e.frames_len ∙ s.len }
+    record { as_roles = e.as_roles ∙ rw p.as_roles (append_assoc (roles (vec_items old)) ys zs); len = omega (arith, p.len, e.len, length-append ys zs); frames = e.frames ∙ s.items; frames_len = e.frames_len ∙ s.len }
 
-told : {stop halt r : ℕ} {ys zs : List Role} {old last : Vec Site Global} {F K : Vec Frame Global} → stop ≡ halt → zs ≡ ys → Walked stop ys r old last F K → Walked halt zs r old last F K
-told {old = old} s t e =
-    record { ends = e.ends ∙ s; as_roles = e.as_roles ∙ ap (λ x. roles (vec_items old) ++ x) (sym t); len = e.len ∙ ap (λ x. vec_len old + length x) (sym t); frames = e.frames; frames_len = e.frames_len }
+told : {ys zs : List Role} {old last : Vec Site Global} {F K : Vec Frame Global} → zs ≡ ys → Walked ys old last F K → Walked zs old last F K
+told {old = old} {last = last} {F = F} {K = K} t e = subst (λ x. Walked x old last F K) (sym t) e
+
+-- Where a walk over one term ends.
+pub walked_past : {S0 S1 : Vec Site Global} {F K : Vec Frame Global} (G : Scope) (b m : ℕ) (body : Term) → Walked (sitess G b m (part body none)) S0 S1 F K → vec_len S1 ≡ vec_len S0 + size body
+walked_past G b m body e = omega (arith, e.len, length-sitess G b m (part body none))
 
 -- A walk over the parts of the first of some terms, and over the others.
-pub past-plain : (S0 S1 S2 : Vec Site Global) (F F1 : Vec Frame Global) (b at r : ℕ) (k : Kind) (ts after : Terms) → sizes ts ≡ 1 + sizes after
+pub past-plain : (S0 S1 S2 : Vec Site Global) (F F1 : Vec Frame Global) (b at : ℕ) (k : Kind) (ts after : Terms) → at ≡ vec_len S0
     → sitess (reverse (vec_items F)) b at ts ≡ role_at (reverse (vec_items F)) b at k ∷ sitess (reverse (vec_items F)) b (at + 1) after
-    → Noted (role_at (reverse (vec_items F)) b at k) S0 S1 → Walked (at + 1 + sizes after) (sitess (reverse (vec_items F)) b (at + 1) after) r S1 S2 F F1
-    → Walked (at + sizes ts) (sitess (reverse (vec_items F)) b at ts) r S0 S2 F F1
-past-plain S0 S1 S2 F F1 b at r k ts after l w p e = told (omega arith) w (after_push p e)
+    → Noted (role_at (reverse (vec_items F)) b at k) S0 S1 → Walked (sitess (reverse (vec_items F)) b (vec_len S1) after) S1 S2 F F1
+    → Walked (sitess (reverse (vec_items F)) b (vec_len S0) ts) S0 S2 F F1
+past-plain S0 S1 S2 F F1 b at k ts after q w p e =
+    let G = reverse (vec_items F) in
+    let n : at + 1 ≡ vec_len S1 = omega (arith, q, p.len) in
+    told (ap (λ m. sitess G b m ts) (sym q) ∙ w) (after_push p (told (ap (λ m. sitess G b m after) n) e))
 
 -- A walk over the body of the first of some terms, and then over the others.
-module _ (S0 S1 S2 S3 : Vec Site Global) (b at q r : ℕ) (body : Term) (us ts : Terms) where
+module _ (S0 S1 S2 S3 : Vec Site Global) (b at : ℕ) (body : Term) (us ts : Terms) (q : at ≡ vec_len S0) where
   pub past-bang : (F F1 F2 : Vec Frame Global) → ts ≡ part (bang body) us → Noted Other S0 S1
-      → Walked (at + 1 + sizes (part body none)) (sitess (reverse (vec_items F)) (b + 1) (at + 1) (part body none)) q S1 S2 F F1
-      → Walked (q + sizes us) (sitess (reverse (vec_items F1)) b q us) r S2 S3 F1 F2
-      → Walked (at + sizes ts) (sitess (reverse (vec_items F)) b at ts) r S0 S3 F F2
+      → Walked (sitess (reverse (vec_items F)) (b + 1) (vec_len S1) (part body none)) S1 S2 F F1
+      → Walked (sitess (reverse (vec_items F1)) b (vec_len S2) us) S2 S3 F1 F2
+      → Walked (sitess (reverse (vec_items F)) b (vec_len S0) ts) S0 S3 F F2
   past-bang F F1 F2 w p e g =
-      let z : q ≡ at + 1 + size body = omega (arith, e.ends) in
-      let h : Walked (at + 1 + size body + sizes us) (sitess (reverse (vec_items F)) b (at + 1 + size body) us) r S2 S3 F1 F2 = rw (← z, ← e.frames) g in
-      told (omega (arith, ap sizes w)) (bang-text (reverse (vec_items F)) b at body us ts w) (after_push p (after_walk (same_frames e) e h))
+      let G = reverse (vec_items F) in
+      let n : at + 1 ≡ vec_len S1 = omega (arith, q, p.len) in
+      let z : at + 1 + size body ≡ vec_len S2 = omega (arith, n, walked_past G (b + 1) (vec_len S1) body e) in
+      let i = told (ap (λ m. sitess G (b + 1) m (part body none)) n) e in
+      let h = told (ap (λ m. sitess G b m us) z ∙ ap (λ x. sitess (reverse x) b (vec_len S2) us) (sym e.frames)) g in
+      told (ap (λ m. sitess G b m ts) (sym q) ∙ bang-text G b at body us ts w) (after_push p (after_walk (same_frames e) i h))
 
   pub past_binder : (k : ℕ) (F F1 F2 F3 F4 : Vec Frame Global) → ts ≡ part (abs k body) us → Noted (Opening at k) S0 S1 → vec_items F1 ≡ vec_items F ++ frame at k b ∷ [] → Same F F3
-      → Walked (at + 1 + sizes (part body none)) (sitess (reverse (vec_items F1)) b (at + 1) (part body none)) q S1 S2 F1 F2
-      → Walked (q + sizes us) (sitess (reverse (vec_items F3)) b q us) r S2 S3 F3 F4
-      → Walked (at + sizes ts) (sitess (reverse (vec_items F)) b at ts) r S0 S3 F F4
+      → Walked (sitess (reverse (vec_items F1)) b (vec_len S1) (part body none)) S1 S2 F1 F2
+      → Walked (sitess (reverse (vec_items F3)) b (vec_len S2) us) S2 S3 F3 F4
+      → Walked (sitess (reverse (vec_items F)) b (vec_len S0) ts) S0 S3 F F4
   past_binder k F F1 F2 F3 F4 w p f s e g =
-      let z : q ≡ at + 1 + size body = omega (arith, e.ends) in
-      let h : Walked (at + 1 + size body + sizes us) (sitess (reverse (vec_items F)) b (at + 1 + size body) us) r S2 S3 F3 F4 = rw (← z, ← s.items) g in
-      let x : reverse (vec_items F1) ≡ frame at k b ∷ reverse (vec_items F) = ap reverse f ∙ reverse-append (vec_items F) (frame at k b ∷ []) in
-      told (omega (arith, ap sizes w)) (abs-text (reverse (vec_items F)) b at k body us ts w) (after_push p (after_walk s (told refl (rw x refl) e) h))
+      let G = reverse (vec_items F) in
+      let n : at + 1 ≡ vec_len S1 = omega (arith, q, p.len) in
+      let z : at + 1 + size body ≡ vec_len S2 = omega (arith, n, walked_past (reverse (vec_items F1)) b (vec_len S1) body e) in
+      let x : reverse (vec_items F1) ≡ frame at k b ∷ G = ap reverse f ∙ reverse-append (vec_items F) (frame at k b ∷ []) in
+      let i = told (ap (λ m. sitess (frame at k b ∷ G) b m (part body none)) n ∙ ap (λ y. sitess y b (vec_len S1) (part body none)) (sym x)) e in
+      let h = told (ap (λ m. sitess G b m us) z ∙ ap (λ y. sitess (reverse y) b (vec_len S2) us) (sym s.items)) g in
+      told (ap (λ m. sitess G b m ts) (sym q) ∙ abs-text G b at k body us ts w) (after_push p (after_walk s i h))
 
 -- The lines of the sites are those of the table's nodes.
 pub lines-more : (xs ys : List Site) (s : Site) (table : List LocatedNode) (at : ℕ) (d : LocatedNode) → at < length table → s.line ≡ (get_or table at d).line → ys ≡ xs ++ s ∷ [] → site_lines xs ≡ take at (lines_in table) → site_lines ys ≡ take (at + 1) (lines_in table)

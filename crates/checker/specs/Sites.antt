@@ -58,9 +58,8 @@ abbrev mutual
   sitess G b m none = []
   sitess G b m (part t ts) = sites G b m t ++ sitess G b (m + size t) ts
 
--- The walk ends at `stop`, has put sites with the roles `ys` at the end, and left the frames as they were.
-pub record Walked (stop : ℕ) (ys : List Role) (r : ℕ) (old new : Vec Site Global) (before after : Vec Frame Global) : Type 0 where
-  pub ends : r ≡ stop
+-- The walk has put sites with the roles `ys` at the end, and left the frames as they were.
+pub record Walked (ys : List Role) (old new : Vec Site Global) (before after : Vec Frame Global) : Type 0 where
   pub as_roles : roles (vec_items new) ≡ roles (vec_items old) ++ ys
   pub len : vec_len new ≡ vec_len old + length ys
   pub frames : vec_items after ≡ vec_items before

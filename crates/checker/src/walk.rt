@@ -1,6 +1,6 @@
 //! A walk over a program's table that notes what the rules need to know of each node.
 ghost use Rattle.std.specs.Prelude.{◌≡◌, ◌+◌, ◌<◌, ◌≤◌, true, [], length, reverse, take, drop, vec_len, vec_capacity, All};
-ghost use Rattle.terms.specs.Term.{Terms, count, sizes};
+ghost use Rattle.terms.specs.Term.{Terms, count};
 ghost use Rattle.sheet.specs.Reading.{term_of, lines_of};
 ghost use Rattle.sheet.specs.Located.{nodes_in, lines_in};
 ghost use Rattle.checker.specs.Sites.{Forest, Stand, resolve, role_at, sites, sitess, Walked};
@@ -76,21 +76,21 @@ impl Walk {
         }
     }
 
-    // Notes the sites of the `pending` terms that stand from `at` on, within `bangs` bangs. Answers the number after
-    // their last node. It calls itself, since only the terms show where the body of a bang or a binder ends.
-    fn note_terms(&mut self, table: &[LocatedNode], at: usize, pending: usize, bangs: u16) -> usize
+    // Notes the sites of the next `pending` terms, which stand within `bangs` bangs. It calls itself, since only the
+    // terms show where the body of a bang or a binder ends.
+    fn note_terms(&mut self, table: &[LocatedNode], pending: usize, bangs: u16)
         requires small { length table.now ≤ 4096 }
-        requires stand { Stand (nodes_in table.now) at pending }
-        requires few { bangs ≤ at }
-        requires deep { vec_len self.old.frames ≤ at }
-        requires noted { vec_len self.old.sites ≡ at }
-        requires lines { site_lines self.old.sites.items ≡ take at (lines_in table.now) }
-        ensures walked { (ts : Terms) → Forest (drop at (nodes_in table.now)) ts → count ts ≡ pending → Walked (at + sizes ts) (sitess (reverse self.old.frames.items) bangs at ts) result self.old.sites self.new.sites self.old.frames self.new.frames }
-        ensures lines { site_lines self.new.sites.items ≡ take result (lines_in table.now) }
+        requires stand { Stand (nodes_in table.now) (vec_len self.old.sites) pending }
+        requires few { bangs ≤ vec_len self.old.sites }
+        requires deep { vec_len self.old.frames ≤ vec_len self.old.sites }
+        requires lines { site_lines self.old.sites.items ≡ take (vec_len self.old.sites) (lines_in table.now) }
+        ensures walked { (ts : Terms) → Forest (drop (vec_len self.old.sites) (nodes_in table.now)) ts → count ts ≡ pending → Walked (sitess (reverse self.old.frames.items) bangs (vec_len self.old.sites) ts) self.old.sites self.new.sites self.old.frames self.new.frames }
+        ensures lines { site_lines self.new.sites.items ≡ take (vec_len self.new.sites) (lines_in table.now) }
     {
         if pending == 0 {
-            return at;
+            return;
         }
+        let at = self.sites.len();
         let located = table[at];
         let role = self.role_of(located.node, at as u16, bangs);
         self.sites.push_reserved(Site {
@@ -99,8 +99,8 @@ impl Walk {
         });
         match located.node.kind {
             Kind::Bang => {
-                let after = self.note_terms(table, at + 1, 1, bangs + 1);
-                self.note_terms(table, after, pending - 1, bangs)
+                self.note_terms(table, 1, bangs + 1);
+                self.note_terms(table, pending - 1, bangs);
             }
             Kind::Binder(pattern) => {
                 self.frames.push_reserved(Frame {
@@ -108,11 +108,11 @@ impl Walk {
                     pattern,
                     depth: bangs,
                 });
-                let after = self.note_terms(table, at + 1, 1, bangs);
+                self.note_terms(table, 1, bangs);
                 let _own = self.frames.pop();
-                self.note_terms(table, after, pending - 1, bangs)
+                self.note_terms(table, pending - 1, bangs);
             }
-            _ => self.note_terms(table, at + 1, pending - 1 + located.node.parts(), bangs),
+            _ => self.note_terms(table, pending - 1 + located.node.parts(), bangs),
         }
     }
 
@@ -123,6 +123,6 @@ impl Walk {
     {
         self.frames.clear();
         self.sites.clear();
-        let _end = self.note_terms(program.table().as_slice(), 0, 1, 0);
+        self.note_terms(program.table().as_slice(), 1, 0);
     }
 }
