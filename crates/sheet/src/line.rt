@@ -34,7 +34,7 @@ impl Numbers {
         }
     }
 
-    /// One number.
+    /// One number; the others in the array do not count.
     pub(crate) fn one(number: u16) -> Numbers
         ensures { result ≡ number ∷ [] }
     {

@@ -13,7 +13,8 @@ fn digits(bytes: &[u8]) -> Option<u16>
 {
     let mut n = 0;
     let mut rest = bytes;
-    // No `for`: the bytes of a field are taken apart as first byte and rest, by slice patterns with guards.
+    // No `for`: by a rule of this project the bytes of a field are taken apart as first byte and rest, by slice patterns with
+    // guards.
     loop {
         match rest {
             [] => return Some(n),

@@ -3,7 +3,8 @@ ghost use Rattle.std.specs.Prelude.{◌≤◌, length};
 
 /// A sheet and how far it is read: `line` lines, and what is left begins at `place`. The lines that it hands out are parts of
 /// the sheet.
-// No bare `enumerate` over `split_inclusive`: a sheet is read by a struct that knows its place in it and its line.
+// No bare `enumerate` over `split_inclusive`: by a rule of this project a sheet is read by a struct that knows its place in
+// the sheet and its line.
 #[derive(Drop)]
 pub(crate) struct Reader<'a> {
     sheet: &'a [u8],
