@@ -83,11 +83,11 @@ impl Wires for Chip {
         self.held.has(wire)
     }
 
-    fn allows(&self, _gate: Gate, operands: Operands) -> bool {
-        match operands {
-            Operands::One(_) => true,
-            Operands::Two(a, b) => self.couples(a, b),
-            Operands::Three(_, _, _) => false,
+    fn allows(&self, gate: Gate, operands: Operands) -> bool {
+        match (gate.width(), operands) {
+            (1, _) => true,
+            (2, Operands::Two(a, b)) => self.couples(a, b),
+            _ => false,
         }
     }
 }

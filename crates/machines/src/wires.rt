@@ -1,6 +1,5 @@
 //! The wires of a machine.
-ghost use Rattle.std.specs.Prelude.{◌≡◌, ℕ, List, [], ◌++◌, length};
-ghost use Rattle.terms.specs.Gate.{width};
+ghost use Rattle.std.specs.Prelude.{◌≡◌, ℕ, List, [], ◌++◌};
 ghost use Rattle.machines.specs.Operation.{number, numbers};
 ghost use Rattle.machines.specs.Wires.{Supply, Bounded, Takes, taken};
 
@@ -25,9 +24,9 @@ pub trait Wires {
     fn holds(&self, wire: Wire) -> bool
         ensures { result ≡ (supply self.now).held (number wire) };
 
-    /// Whether the gate is allowed on the operands, if they are as many as its width.
+    /// Whether the gate is allowed on the operands.
     fn allows(&self, gate: Gate, operands: Operands) -> bool
-        ensures { length (numbers operands) ≡ width gate → result ≡ (supply self.now).allowed gate (numbers operands) };
+        ensures { result ≡ (supply self.now).allowed gate (numbers operands) };
 
     /// Only wires are held, and no more of them than there are.
     ghost bounded: { (x : Self) → Bounded (supply x) };

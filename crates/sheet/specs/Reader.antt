@@ -18,13 +18,14 @@ pub record Piece (text l rest : List ℕ) : Type 0 where
 abbrev pub left : Reader → List ℕ
 left r = drop r.place r.sheet.now
 
--- The line l comes next, and has the number n.
+-- The line l comes next, and has the number n. The sheet stays.
 pub record NextLine (s : Reader) (n : ℕ) (l : List ℕ) (t : Reader) : Type 0 where
   pub piece : Piece (left s) l (left t)
   pub number : n ≡ s.line + 1
   pub counted : t.line ≡ n
+  pub sheet : t.sheet ≡ s.sheet
 
--- What a reader hands out next: nothing is left, or the next line.
+-- What a reader hands out next: nothing is left, and it stays as it is, or the next line.
 abbrev pub Next : Reader → Option (ℕ × Bor (List ℕ)) → Reader → Type 0
-Next s None t = left s ≡ []
+Next s None t = (left s ≡ []) × (t ≡ s)
 Next s (Some p) t = NextLine s p.0 p.1.now t

@@ -46,7 +46,7 @@ impl Numbers {
 
     /// One number more, if there is room for it.
     pub(crate) fn push(&mut self, number: u16) -> Option<()>
-        ensures { MatchOption result (8 ≤ length self.old) (λ _. (length self.old < 8) × (self.new ≡ self.old ++ number ∷ [])) }
+        ensures { MatchOption result ((8 ≤ length self.old) × (self.new ≡ self.old)) (λ _. (length self.old < 8) × (self.new ≡ self.old ++ number ∷ [])) }
     {
         let place = self.count;
         if place == self.list.len() {

@@ -103,7 +103,7 @@ loop-number-preserved c =
 
 -- After the last line.
 whole : (c : goal.In-None) → Begins c.args.sheet.now (entries (vec_items c.loop-number.self.sheet_lines)) []
-whole c = subst (λ (xs : List ℕ). Begins c.args.sheet.now (entries (vec_items c.loop-number.self.sheet_lines)) xs) c.in-None.ensures.steps c.loop-number.invariant.2
+whole c = subst (λ (xs : List ℕ). Begins c.args.sheet.now (entries (vec_items c.loop-number.self.sheet_lines)) xs) c.in-None.ensures.steps.0 c.loop-number.invariant.2
 
 pub first_unused-requires : goal.first_unused-requires
 first_unused-requires c =
