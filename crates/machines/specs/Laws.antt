@@ -17,7 +17,7 @@ pub composed_lawful : (s : Supply) (made : ℕ) (last : Option Operation) (most 
 composed_lawful s made last most b = record { wires = b.wires; limit = b.limit }
 
 -- The wires that operations grant.
-granted-append : (os ps : List Operation) → granted_wires (os ++ ps) ≡ granted_wires os ++ granted_wires ps
+pub granted-append : (os ps : List Operation) → granted_wires (os ++ ps) ≡ granted_wires os ++ granted_wires ps
 granted-append [] ps = refl
 granted-append (o ∷ os) ps =
     ap (λ l. granted_by o.action o.wires ++ l) (granted-append os ps)

@@ -9,7 +9,7 @@ use terms::Kind;
 #[derive(Drop)]
 pub(crate) struct Numbers {
     list: [u16; 8],
-    count: usize,
+    count: u8,
 }
 
 // Clauses see the list of the numbers.
@@ -48,7 +48,7 @@ impl Numbers {
     pub(crate) fn push(&mut self, number: u16) -> Option<()>
         ensures { MatchOption result ((8 ≤ length self.old) × (self.new ≡ self.old)) (λ _. (length self.old < 8) × (self.new ≡ self.old ++ number ∷ [])) }
     {
-        let place = self.count;
+        let place = self.count as usize;
         if place == self.list.len() {
             return None;
         }
@@ -62,7 +62,7 @@ impl Numbers {
         ensures numbers { result.now ≡ self.now }
         ensures few { length self.now ≤ 8 }
     {
-        &self.list[..self.count]
+        &self.list[..self.count as usize]
     }
 }
 
