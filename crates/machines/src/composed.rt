@@ -8,12 +8,13 @@ use crate::wires::Wires;
 use terms::{Gate, Wire};
 
 /// A machine that takes its wires from `wires`, counts its operations, and writes them into `journal`.
+// No ghost field for the bound on `made`: a machine with one, whose journal is a lent list, could not be handed on by value in
+// generic code.
 #[derive(Drop)]
-pub struct Machine<W, J: Journal> {
+pub struct Machine<W, J> {
     wires: W,
     made: usize,
     journal: J,
-    ghost within: { made ≤ J.most journal },
 }
 
 impl<W: Wires, J: Journal> Machine<W, J> {
@@ -67,7 +68,8 @@ impl<'a, W> Machine<W, &'a mut [Operation]> {
     pub fn records(&self) -> &[Operation]
         ensures { result.now ≡ take self.now.made self.now.journal.now }
     {
-        &self.journal[..self.made]
+        let made = self.made.min(self.journal.len());
+        &self.journal[..made]
     }
 }
 

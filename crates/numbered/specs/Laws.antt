@@ -1,15 +1,20 @@
 -- That numbered wires are bounded, and that they can be taken one after another. These are proofs, for the prover and not for
 -- the reader; they stand here since the ghost members of the wires name them.
-use Rattle.std.specs.Prelude.{◌≡◌, ℕ, zero, suc, ◌+◌, List, [], ◌∷◌, ◌++◌, length, refl}
-use Rattle.std.proofs.Common.{sym, ap, ap₂, ◌∙◌, add_assoc, add-zero, zero-add, suc-add, one-add, ltb-true, lt_of_lt_of_le, le_trans, length-append}
+use Rattle.std.specs.Prelude.{◌≡◌, ℕ, zero, suc, ◌+◌, min, List, [], ◌∷◌, ◌++◌, length, refl}
+use Rattle.std.proofs.Common.{sym, ap, ap₂, ◌∙◌, add_assoc, add-zero, zero-add, suc-add, one-add, ltb-true, lt_of_lt_of_le, length-append}
+use Rattle.std.proofs.Math.Nat.{min-le_right}
 use Rattle.std.specs.List.{range_with_len}
 use Rattle.machines.specs.Laws.{count_goes}
+use Rattle.machines.specs.Machine.{wire_count}
 use Rattle.machines.specs.Wires.{Bounded}
 use Rattle.numbered.specs.Numbered.{supply_of, Numbers}
 use Rattle.numbered.specs.declared.numbering.Numbering.{Numbering}
 
 pub numbering_bounded : (n : Numbering) → Bounded (supply_of n)
-numbering_bounded n = record { wires = λ v e. lt_of_lt_of_le (ltb-true v n.next e) (le_trans n.within n.limit); limit = n.limit }
+numbering_bounded n = record {
+  wires = λ v e. lt_of_lt_of_le (ltb-true v (min n.next wire_count) e) (min-le_right n.next wire_count);
+  limit = min-le_right n.most wire_count;
+}
 
 counting_append : (a m n : ℕ) → range_with_len a (m + n) ≡ range_with_len a m ++ range_with_len (a + m) n
 counting_append a zero n = ap (range_with_len a) (zero-add n) ∙ ap (λ k. range_with_len k n) (sym (add-zero a))

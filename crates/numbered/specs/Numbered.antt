@@ -10,9 +10,16 @@ use Rattle.numbered.specs.declared.numbering.Numbering.{Numbering}
 abbrev pub every_gate : Gate → List ℕ → Bool
 every_gate g ws = true
 
--- The wires held are those below the next number.
+-- The wires held: those below the next number.
+abbrev pub numbered : Numbering → ℕ → Bool
+numbered n v = nat_lt v (min n.next wire_count)
+
+-- The most wires.
+abbrev pub room : Numbering → ℕ
+room n = min n.most wire_count
+
 abbrev pub supply_of : Numbering → Supply
-supply_of n = record { held = λ v. nat_lt v n.next; most = n.most; allowed = every_gate }
+supply_of n = record { held = numbered n; most = room n; allowed = every_gate }
 
 -- The wires that are taken are the next numbers, one after another.
 pub record Numbers (n : Numbering) (ws : List ℕ) (m : Numbering) : Type 0 where

@@ -1,6 +1,4 @@
 //! Wires that are numbered from 0 on.
-ghost use Rattle.std.specs.Prelude.{◌≤◌};
-ghost use Rattle.machines.specs.Machine.{wire_count};
 
 use machines::machine::MOST_WIRES;
 use machines::operation::{Full, Operands};
@@ -8,16 +6,17 @@ use machines::wires::Wires;
 use terms::{Gate, Wire};
 
 /// The wires below `next` are held, at most `most` are, and all gates are allowed on them.
+// No ghost fields for the bounds, so that a machine with a lent list can be handed on by value in generic code. What is held
+// and the most that is are limited by the number of wires instead.
 #[derive(Clone, Copy)]
 pub struct Numbering {
     next: u16,
     most: u16,
-    ghost within: { next ≤ most },
-    ghost limit: { most ≤ wire_count },
 }
 
 impl Numbering {
     ghost use Rattle.std.specs.Prelude.{◌≡◌, min};
+    ghost use Rattle.machines.specs.Machine.{wire_count};
 
     /// Holds the wires below `start`. More than 4,096 wires count as 4,096, and a start over the most wires as these.
     // No struct for the two numbers, which all makers of machines hand on: it would be taken apart here alone.
@@ -48,7 +47,7 @@ impl Wires for Numbering {
     ghost goes = { numbers_go };
 
     fn take(&mut self) -> Result<Wire, Full> {
-        if self.next >= self.most {
+        if self.next >= self.most.min(MOST_WIRES) {
             return Err(Full);
         }
         let wire = Wire::new(self.next).unwrap();
@@ -57,7 +56,7 @@ impl Wires for Numbering {
     }
 
     fn holds(&self, wire: Wire) -> bool {
-        wire.number() < self.next
+        wire.number() < self.next.min(MOST_WIRES)
     }
 
     fn allows(&self, _gate: Gate, _operands: Operands) -> bool {
