@@ -45,3 +45,34 @@ fn records_fill_the_front(rt: HostRuntime) -> Result<(), Fail> {
     assert_eq!(rt; list, [grant, gate, blank, blank]);
     Ok(())
 }
+
+/// Any machine, and whether it granted a wire when it was taken over.
+#[derive(Drop)]
+struct TakenOver<M> {
+    machine: M,
+    granted: bool,
+}
+
+fn take_over<M: GateMachine>(mut machine: M) -> TakenOver<M> {
+    let granted = machine.grant(false).is_ok();
+    TakenOver { machine, granted }
+}
+
+// That this is proved is the point: a machine with a ghost field beside its lent list could not be taken by value.
+#[test]
+fn a_list_machine_is_taken_by_value(rt: HostRuntime) -> Result<(), Fail> {
+    let zero = wire(0)?;
+    let blank = Operation {
+        action: Action::Gate(Gate::Z),
+        operands: Operands::One(zero),
+    };
+    let mut list = [blank; 2];
+    let taken = take_over(list_machine(0, 4, &mut list));
+    assert!(rt; taken.granted);
+    let mut held = Some(taken.machine);
+    if let Some(machine) = &mut held {
+        assert_eq!(rt; machine.apply(Gate::H, &[zero]), Ok(()));
+        assert_eq!(rt; machine.grant(true), Err(Full));
+    }
+    Ok(())
+}
