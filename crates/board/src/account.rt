@@ -1,30 +1,46 @@
 //! What a sheet has in it.
-ghost use Rattle.std.specs.Prelude.{◌≡◌, ◌==◌, count_by};
-ghost use Rattle.board.specs.Account.{letter_of};
+ghost use Rattle.std.specs.Prelude.{◌≡◌, ◌<◌, length};
+ghost use Rattle.board.specs.Account.{letters, place_of, counted};
 
 use sheet::located::LocatedNode;
 use terms::Kind;
 
-/// The letter of a kind's lines in a sheet.
-fn letter(kind: Kind) -> char
-    ensures { result ≡ letter_of kind }
+/// The place of a kind's letter among the letters `v`, `w`, `c`, `g`, `n`, `b`, `a`, `t`, `l`.
+fn place(kind: Kind) -> usize
+    ensures in_range { result < length letters }
+    ensures value { result ≡ place_of kind }
 {
     match kind {
-        Kind::Variable { .. } => 'v',
-        Kind::Wire(_) => 'w',
-        Kind::Constant(_) => 'c',
-        Kind::Gate(_) => 'g',
-        Kind::New => 'n',
-        Kind::Bang => 'b',
-        Kind::Application => 'a',
-        Kind::Tuple(_) => 't',
-        Kind::Binder(_) => 'l',
+        Kind::Variable { .. } => 0,
+        Kind::Wire(_) => 1,
+        Kind::Constant(_) => 2,
+        Kind::Gate(_) => 3,
+        Kind::New => 4,
+        Kind::Bang => 5,
+        Kind::Application => 6,
+        Kind::Tuple(_) => 7,
+        Kind::Binder(_) => 8,
     }
 }
 
-/// How many nodes there are of the kind with this letter. A walk for each letter is short: a program has 4,096 nodes at most.
-pub fn count_kind(table: &[LocatedNode], of: char) -> usize
-    ensures { result ≡ count_by (λ x. letter_of x.node.kind == of) table.now }
+/// Each kind's letter, with how many nodes of that kind there are.
+// One walk counts all kinds: a walk for each letter takes nearly six times as long on 4,096 nodes.
+pub fn count_kinds(table: &[LocatedNode]) -> [(char, usize); 9]
+    ensures { result ≡ counted table.now }
 {
-    table.iter().filter(|x| letter(x.node.kind) == of).count()
+    let mut counts = [
+        ('v', 0),
+        ('w', 0),
+        ('c', 0),
+        ('g', 0),
+        ('n', 0),
+        ('b', 0),
+        ('a', 0),
+        ('t', 0),
+        ('l', 0),
+    ];
+    for located in table {
+        counts[place(located.node.kind)].1 += 1;
+    }
+    counts
 }

@@ -1,7 +1,7 @@
 //! The board: reads a program sheet from standard input, and prints what became of it.
 #![tactic(auto)]
 
-use account::count_kind;
+use account::count_kinds;
 use intake::intake::Intake;
 use sheet::located::LocatedNode;
 use sheet::refusal::Refusal;
@@ -12,9 +12,6 @@ mod account;
 /// One byte more than a program sheet may have.
 const MOST: u64 = 65_537;
 
-/// The letters of the kinds, in the order in which they are printed.
-const LETTERS: [char; 9] = ['v', 'w', 'c', 'g', 'n', 'b', 'a', 't', 'l'];
-
 fn print_refusal(rt: &HostRuntime, refusal: Refusal) -> anyhow::Result<()> {
     let number = refusal.rule.number();
     let line = refusal.line;
@@ -24,11 +21,12 @@ fn print_refusal(rt: &HostRuntime, refusal: Refusal) -> anyhow::Result<()> {
 }
 
 fn print_account(rt: &HostRuntime, table: &[LocatedNode]) -> anyhow::Result<()> {
+    let counts = count_kinds(table);
     let nodes = table.len();
-    let wires = count_kind(table, 'w');
+    let [_, (letter, wires), ..] = counts;
+    prove!(letter == 'w');
     println!(rt; "A\t{nodes}\t{nodes}\t{wires}")?;
-    for letter in LETTERS {
-        let count = count_kind(table, letter);
+    for (letter, count) in counts {
         println!(rt; "K\t{letter}\t{count}")?;
     }
     Ok(())
