@@ -1,5 +1,5 @@
 -- What follows from the interface of machines.
-use Rattle.std.proofs.Common.{◌≡◌, ℕ, ◌+◌, Bool, ◌||◌, List, [], ◌∷◌, ◌++◌, map, length, take, drop, Err, Result, refl, ap, ◌∙◌, subst, arith, eq-eqb}
+use Rattle.std.proofs.Common.{◌≡◌, ℕ, ◌+◌, Bool, ◌||◌, List, [], ◌∷◌, map, length, take, drop, Err, Result, refl, ap, ◌∙◌, subst, arith, eq-eqb}
 use Rattle.std.specs.Borrow.{MutBor}
 use Rattle.std.specs.List.{range_with_len, IsDistinct}
 use Rattle.terms.specs.declared.Gate.TheVariants.{H}
