@@ -61,18 +61,6 @@ impl<W> Machine<W, Last> {
     }
 }
 
-impl<'a, W> Machine<W, &'a mut [Operation]> {
-    ghost use Rattle.std.specs.Prelude.{take};
-
-    /// The records written so far, one for each operation.
-    pub fn records(&self) -> &[Operation]
-        ensures { result.now ≡ take self.now.made self.now.journal.now }
-    {
-        let made = self.made.min(self.journal.len());
-        &self.journal[..made]
-    }
-}
-
 impl<W: Wires, J: Journal> GateMachine for Machine<W, J> {
     ghost use Rattle.machines.specs.Operation.{granted_wires};
     ghost use Rattle.machines.specs.Composed.{composed};

@@ -3,6 +3,7 @@
 
 pub mod composed;
 pub mod journal;
+pub mod listed;
 pub mod machine;
 pub mod operation;
 pub mod wires;
