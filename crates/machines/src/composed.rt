@@ -8,13 +8,12 @@ use crate::wires::Wires;
 use terms::{Gate, Wire};
 
 /// A machine that takes its wires from `wires`, counts its operations, and writes them into `journal`.
-// No ghost field for the bound on `made`: a machine with one, whose journal is a lent list, could not be handed on by value in
-// generic code.
 #[derive(Drop)]
-pub struct Machine<W, J> {
+pub struct Machine<W, J: Journal> {
     wires: W,
     made: usize,
     journal: J,
+    ghost within: { made ≤ J.most journal },
 }
 
 impl<W: Wires, J: Journal> Machine<W, J> {

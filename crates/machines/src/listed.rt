@@ -10,7 +10,8 @@ use terms::{Gate, Wire};
 
 /// A machine that takes its wires from `wires`, and writes each operation into a list that it was lent, from its front on.
 // A struct of its own, and not `Machine` with the list as its journal: of that no trait object is covered (*a trait object
-// needs the block `machines::composed::MachineGateMachine` at a lifetime, a type parameter, ..*).
+// needs the block `machines::composed::MachineGateMachine` at a lifetime, a type parameter, ..*). No ghost field for the bound
+// on `made`: with one beside the lent list it could not be taken by value in generic code.
 #[derive(Drop)]
 pub struct Listed<'a, W> {
     wires: W,
