@@ -1,16 +1,18 @@
 //! Code over any machine and any tariff: what it can promise from the interfaces alone.
 #![tactic(auto)]
 
-ghost use Rattle.std.specs.Prelude.{◌≡◌, map, length, take, drop};
+ghost use Rattle.std.specs.Prelude.{◌≡◌, List, map, length, take, drop};
 ghost use Rattle.std.specs.List.{range_with_len};
 ghost use Rattle.machines.specs.Machine.{Meaning};
-ghost use Rattle.machines.specs.Operation.{told, granted_wires};
+ghost use Rattle.machines.specs.Operation.{Operation as Made, told, granted_wires};
+ghost use Rattle.machines.specs.declared.listed.Listed.{Listed};
+ghost use Rattle.numbered.specs.declared.numbering.Numbering.{Numbering};
 ghost use Rattle.numbered.specs.Numbered.{fresh_numbered};
 ghost use Rattle.generic_use.specs.Preparing.{Prepares, prepared};
 
 use machines::machine::GateMachine;
 use machines::operation::{Full, GateRefusal, Operation};
-use numbered::list::list_machine;
+use numbered::list::{ListMachine, list_machine};
 use tariffs::Tariff;
 use terms::{Gate, StepKind, Wire};
 
@@ -44,6 +46,12 @@ pub fn prepare_listed(list: &mut [Operation]) -> Result<Prepared, Full>
     let mut machine = list_machine(0, 4, list);
     prepare(&mut machine)
 }
+
+/// What a lent list holds once a list machine that had made no operation and held no wire has made some, by whatever code it
+/// was driven: just these operations, on wires from 0 on, and behind them what it held before.
+pub fn lent_list_is_told<'a>()
+    ensures { (x y : Listed Numbering) (os : List Made) → x.made ≡ 0 → x.wires.next ≡ 0 → ⟦<ListMachine<'a> as GateMachine>⟧.makes x os y → (granted_wires os ≡ range_with_len 0 (length (granted_wires os))) × (map told (take (length os) y.list.now) ≡ os) × (drop (length os) y.list.now ≡ drop (length os) x.list.now) }
+{}
 
 /// The charge for two steps, which is the same in the other order.
 pub fn charge_both<T: Tariff>(tariff: &T, first: StepKind, second: StepKind) -> T::Charge

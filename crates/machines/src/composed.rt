@@ -1,9 +1,10 @@
 //! Machines that are composed of their wires and of a journal.
 ghost use Rattle.std.specs.Prelude.{◌≡◌, ◌+◌, ◌<◌, ◌≤◌, ◌↔◌, length, None, IsOk, OnOk};
 
+use crate::calls;
 use crate::journal::{Journal, Last};
 use crate::machine::GateMachine;
-use crate::operation::{Action, Full, GateRefusal, Operands, Operation};
+use crate::operation::{Full, GateRefusal, Operation};
 use crate::wires::Wires;
 use terms::{Gate, Wire};
 
@@ -28,18 +29,6 @@ impl<W: Wires, J: Journal> Machine<W, J> {
             wires,
             made: 0,
             journal,
-        }
-    }
-
-    // Whether there is room for one more operation.
-    fn room(&self) -> Result<(), Full>
-        ensures room { IsOk result ↔ self.now.made < J.most self.now.journal }
-        ensures fits { OnOk result (self.now.made < usize.MAX) }
-    {
-        if self.made < self.journal.most() {
-            Ok(())
-        } else {
-            Err(Full)
         }
     }
 }
@@ -80,30 +69,12 @@ impl<W: Wires, J: Journal> GateMachine for Machine<W, J> {
     } };
 
     fn grant(&mut self, constant: bool) -> Result<Wire, Full> {
-        self.room()?;
-        let wire = self.wires.take()?;
-        let operation = Operation {
-            action: Action::Grant(constant),
-            operands: Operands::One(wire),
-        };
-        self.journal.write(self.made, operation)?;
-        self.made += 1;
-        Ok(wire)
+        calls::grant(&mut self.wires, &mut self.made, &mut self.journal, constant)
     }
 
     fn apply(&mut self, gate: Gate, wires: &[Wire]) -> Result<(), GateRefusal> {
-        self.room()?;
-        let operands = self.named(gate, wires).ok_or(GateRefusal::Misnamed)?;
-        if !self.wires.allows(gate, operands) {
-            return Err(GateRefusal::Forbidden);
-        }
-        let operation = Operation {
-            action: Action::Gate(gate),
-            operands,
-        };
-        self.journal.write(self.made, operation)?;
-        self.made += 1;
-        Ok(())
+        let named = self.named(gate, wires);
+        calls::apply(&self.wires, &mut self.made, &mut self.journal, gate, named)
     }
 
     fn holds(&self, wire: Wire) -> bool {

@@ -2,9 +2,9 @@
 ghost use Rattle.std.specs.Prelude.{◌≡◌, ◌+◌, ◌<◌, ◌↔◌, length, take, IsOk, OnOk};
 ghost use Rattle.machines.specs.Listing.{list_last, list_most, Writes};
 
-use crate::journal::Journal;
+use crate::calls;
 use crate::machine::GateMachine;
-use crate::operation::{Action, Full, GateRefusal, Operands, Operation};
+use crate::operation::{Full, GateRefusal, Operation};
 use crate::wires::Wires;
 use terms::{Gate, Wire};
 
@@ -41,18 +41,6 @@ impl<'a, W> Listed<'a, W> {
         let made = self.made.min(self.list.len());
         &self.list[..made]
     }
-
-    // Whether there is room for one more operation.
-    fn room(&self) -> Result<(), Full>
-        ensures room { IsOk result ↔ self.now.made < list_most self.now.list }
-        ensures fits { OnOk result (self.now.made < usize.MAX) }
-    {
-        if self.made < self.list.most() {
-            Ok(())
-        } else {
-            Err(Full)
-        }
-    }
 }
 
 impl<'a, W: Wires> GateMachine for Listed<'a, W> {
@@ -75,30 +63,12 @@ impl<'a, W: Wires> GateMachine for Listed<'a, W> {
     } };
 
     fn grant(&mut self, constant: bool) -> Result<Wire, Full> {
-        self.room()?;
-        let wire = self.wires.take()?;
-        let operation = Operation {
-            action: Action::Grant(constant),
-            operands: Operands::One(wire),
-        };
-        self.list.write(self.made, operation)?;
-        self.made += 1;
-        Ok(wire)
+        calls::grant(&mut self.wires, &mut self.made, &mut self.list, constant)
     }
 
     fn apply(&mut self, gate: Gate, wires: &[Wire]) -> Result<(), GateRefusal> {
-        self.room()?;
-        let operands = self.named(gate, wires).ok_or(GateRefusal::Misnamed)?;
-        if !self.wires.allows(gate, operands) {
-            return Err(GateRefusal::Forbidden);
-        }
-        let operation = Operation {
-            action: Action::Gate(gate),
-            operands,
-        };
-        self.list.write(self.made, operation)?;
-        self.made += 1;
-        Ok(())
+        let named = self.named(gate, wires);
+        calls::apply(&self.wires, &mut self.made, &mut self.list, gate, named)
     }
 
     fn holds(&self, wire: Wire) -> bool {
