@@ -1,5 +1,5 @@
 //! Machines that are composed of their wires and of a journal.
-ghost use Rattle.std.specs.Prelude.{◌≡◌, ◌+◌, ◌<◌, ◌≤◌, ◌↔◌, length, None, IsOk, OnOk};
+ghost use Rattle.std.specs.Prelude.{◌≡◌, ◌+◌, ◌≤◌, length, None};
 
 use crate::calls;
 use crate::journal::{Journal, Last};

@@ -1,5 +1,5 @@
 //! Machines that write their operations into a list that they were lent.
-ghost use Rattle.std.specs.Prelude.{◌≡◌, ◌+◌, ◌<◌, ◌↔◌, length, take, IsOk, OnOk};
+ghost use Rattle.std.specs.Prelude.{◌≡◌, ◌+◌, length, take};
 ghost use Rattle.machines.specs.Listing.{list_last, list_most, Writes};
 
 use crate::calls;

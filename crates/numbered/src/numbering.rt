@@ -1,5 +1,4 @@
 //! Wires that are numbered from 0 on.
-
 use machines::machine::MOST_WIRES;
 use machines::operation::{Full, Operands};
 use machines::wires::Wires;
