@@ -47,10 +47,10 @@ pub fn prepare_listed(list: &mut [Operation]) -> Result<Prepared, Full>
     prepare(&mut machine)
 }
 
-/// What a lent list holds once a list machine that had made no operation and held no wire has made some, by whatever code it
-/// was driven: just these operations, on wires from 0 on, and behind them what it held before.
+/// What a lent list holds once a list machine that had made no operation has made some, by whatever code it was driven: just
+/// these operations, on wires from its next one on, and behind them what it held before.
 pub fn lent_list_is_told<'a>()
-    ensures { (x y : Listed Numbering) (os : List Made) → x.made ≡ 0 → x.wires.next ≡ 0 → ⟦<ListMachine<'a> as GateMachine>⟧.makes x os y → (granted_wires os ≡ range_with_len 0 (length (granted_wires os))) × (map told (take (length os) y.list.now) ≡ os) × (drop (length os) y.list.now ≡ drop (length os) x.list.now) }
+    ensures { (x y : Listed Numbering) (os : List Made) → x.made ≡ 0 → ⟦<ListMachine<'a> as GateMachine>⟧.makes x os y → (granted_wires os ≡ range_with_len x.wires.next (length (granted_wires os))) × (map told (take (length os) y.list.now) ≡ os) × (drop (length os) y.list.now ≡ drop (length os) x.list.now) }
 {}
 
 /// The charge for two steps, which is the same in the other order.

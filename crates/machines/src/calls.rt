@@ -28,7 +28,7 @@ pub(crate) fn grant<W: Wires, J: Journal>(
     journal: &mut J,
     constant: bool,
 ) -> Result<Wire, Full>
-    ensures grants { Grants constant result (composed (W.supply wires.old) made.old (J.last journal.old made.old) (J.most journal.old)) (composed (W.supply wires.new) made.new (J.last journal.new made.new) (J.most journal.new)) }
+    ensures grants { let before = composed (W.supply wires.old) made.old (J.last journal.old made.old) (J.most journal.old) in let after = composed (W.supply wires.new) made.new (J.last journal.new made.new) (J.most journal.new) in Grants constant result before after }
     ensures takes { W.takes wires.old (granted_wires (grant_made constant result)) wires.new }
     ensures counts { made.new ≡ made.old + length (grant_made constant result) }
     ensures writes { J.writes journal.old made.old (grant_made constant result) journal.new }
@@ -53,10 +53,10 @@ pub(crate) fn apply<W: Wires, J: Journal>(
     gate: Gate,
     named: Option<Operands>,
 ) -> Result<(), GateRefusal>
-    ensures applies { (ws : List ℕ) → Names (composed (W.supply wires.now) made.old (J.last journal.old made.old) (J.most journal.old)) gate ws named → Applies gate ws result (composed (W.supply wires.now) made.old (J.last journal.old made.old) (J.most journal.old)) (composed (W.supply wires.now) made.new (J.last journal.new made.new) (J.most journal.new)) }
+    ensures applies { let before = composed (W.supply wires.now) made.old (J.last journal.old made.old) (J.most journal.old) in let after = composed (W.supply wires.now) made.new (J.last journal.new made.new) (J.most journal.new) in (ws : List ℕ) → Names before gate ws named → Applies gate ws result before after }
     ensures takes { (ws : List ℕ) → W.takes wires.now (granted_wires (gate_made gate ws result)) wires.now }
     ensures counts { (ws : List ℕ) → made.new ≡ made.old + length (gate_made gate ws result) }
-    ensures writes { (ws : List ℕ) → Names (composed (W.supply wires.now) made.old (J.last journal.old made.old) (J.most journal.old)) gate ws named → J.writes journal.old made.old (gate_made gate ws result) journal.new }
+    ensures writes { let before = composed (W.supply wires.now) made.old (J.last journal.old made.old) (J.most journal.old) in (ws : List ℕ) → Names before gate ws named → J.writes journal.old made.old (gate_made gate ws result) journal.new }
     ensures within { made.old ≤ J.most journal.old → made.new ≤ J.most journal.new }
 {
     room(*made, journal)?;
