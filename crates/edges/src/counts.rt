@@ -1,8 +1,10 @@
 //! The counting machine at its limits.
 use crate::{granted, wire};
 use machines::machine::GateMachine;
-use machines::operation::{Action, GateRefusal, Operands, Operation};
+use machines::operation::{Action, Full, GateRefusal, Operands, Operation};
+use machines::wires::Wires;
 use numbered::counting::counting_machine;
+use numbered::numbering::Numbering;
 use std::test::Fail;
 use terms::Gate;
 
@@ -44,6 +46,27 @@ fn wires_held_at_first(rt: HostRuntime) -> Result<(), Fail> {
         for number in 0..4096 {
             assert_eq!(rt; machine.holds(wire(number)?), number < end);
         }
+    }
+    Ok(())
+}
+
+/// Start and most wires, and the wires taken one after another.
+const TAKEN: [(u32, u32, &[u16]); 4] = [
+    (0, 0, &[]),
+    (5, 3, &[]),
+    (1, 3, &[1, 2]),
+    (4094, 5000, &[4094, 4095]),
+];
+
+#[test]
+fn wires_are_taken_up_to_the_most(rt: HostRuntime) -> Result<(), Fail> {
+    for (start, most, taken) in TAKEN {
+        let mut numbering = Numbering::new(start, most);
+        for number in taken {
+            assert_eq!(rt; numbering.take(), Ok(wire(*number)?));
+        }
+        assert_eq!(rt; numbering.take(), Err(Full));
+        assert_eq!(rt; numbering.take(), Err(Full));
     }
     Ok(())
 }

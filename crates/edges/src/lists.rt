@@ -1,8 +1,10 @@
 //! The list machine at its limits.
 use crate::wire;
+use machines::composed::Machine;
 use machines::machine::GateMachine;
 use machines::operation::{Action, Full, GateRefusal, Operands, Operation};
 use numbered::list::list_machine;
+use numbered::numbering::Numbering;
 use std::test::Fail;
 use terms::{Gate, Wire};
 
@@ -43,6 +45,33 @@ fn records_fill_the_front(rt: HostRuntime) -> Result<(), Fail> {
     assert_eq!(rt; machine.apply(Gate::Cx, &[one, zero]), Ok(()));
     assert_eq!(rt; machine.records(), [grant, gate].as_slice());
     assert_eq!(rt; list, [grant, gate, blank, blank]);
+    Ok(())
+}
+
+// A machine that is composed with a lent list as its journal hands out its records as a list machine does.
+#[test]
+fn a_machine_with_a_list_as_its_journal_hands_out_its_records(rt: HostRuntime) -> Result<(), Fail> {
+    let zero = wire(0)?;
+    let one = wire(1)?;
+    let blank = Operation {
+        action: Action::Gate(Gate::Z),
+        operands: Operands::One(zero),
+    };
+    let grant = Operation {
+        action: Action::Grant(false),
+        operands: Operands::One(one),
+    };
+    let gate = Operation {
+        action: Action::Gate(Gate::Swap),
+        operands: Operands::Two(zero, one),
+    };
+    let mut list = [blank; 3];
+    let mut machine = Machine::new(Numbering::new(1, 2), list.as_mut_slice());
+    assert!(rt; machine.records().is_empty());
+    assert_eq!(rt; machine.grant(false), Ok(one));
+    assert_eq!(rt; machine.apply(Gate::Swap, &[zero, one]), Ok(()));
+    assert_eq!(rt; machine.records(), [grant, gate].as_slice());
+    assert_eq!(rt; list, [grant, gate, blank]);
     Ok(())
 }
 

@@ -49,6 +49,17 @@ impl<W> Machine<W, Last> {
     }
 }
 
+impl<'a, W> Machine<W, &'a mut [Operation]> {
+    ghost use Rattle.std.specs.Prelude.{take};
+
+    /// The records written so far, one for each operation.
+    pub fn records(&self) -> &[Operation]
+        ensures { result.now ≡ take self.now.made self.now.journal.now }
+    {
+        &self.journal[..self.made]
+    }
+}
+
 impl<W: Wires, J: Journal> GateMachine for Machine<W, J> {
     ghost use Rattle.machines.specs.Operation.{granted_wires};
     ghost use Rattle.machines.specs.Composed.{composed};

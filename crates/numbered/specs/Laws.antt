@@ -7,7 +7,7 @@ use Rattle.std.specs.List.{range_with_len}
 use Rattle.machines.specs.Laws.{count_goes}
 use Rattle.machines.specs.Machine.{wire_count}
 use Rattle.machines.specs.Wires.{Bounded}
-use Rattle.numbered.specs.Numbered.{supply_of, Numbers}
+use Rattle.numbered.specs.Numbered.{supply_of, Numbers, NumbersTaken}
 use Rattle.numbered.specs.declared.numbering.Numbering.{Numbering}
 
 pub numbering_bounded : (n : Numbering) → Bounded (supply_of n)
@@ -32,4 +32,14 @@ numbers_go n m k us vs a b = record {
       ∙ sym (counting_append n.next (length us) (length vs))
       ∙ ap (range_with_len n.next) (sym (length-append us vs));
   next = count_goes n.next m.next k.next us vs a.next b.next;
+}
+
+pub numbers_taken_stay : (n : Numbering) → NumbersTaken n [] n
+numbers_taken_stay n = record { numbers = numbers_stay n; most = refl; within = λ h. h }
+
+pub numbers_taken_go : (n m k : Numbering) (us vs : List ℕ) → NumbersTaken n us m → NumbersTaken m vs k → NumbersTaken n (us ++ vs) k
+numbers_taken_go n m k us vs a b = record {
+  numbers = numbers_go n m k us vs a.numbers b.numbers;
+  most = b.most ∙ a.most;
+  within = λ h. b.within (a.within h);
 }

@@ -1,5 +1,5 @@
 -- Wires that are numbered from 0 on.
-use Rattle.std.specs.Prelude.{◌≡◌, ℕ, ◌+◌, min, Bool, true, List, length, None, nat_lt}
+use Rattle.std.specs.Prelude.{◌≡◌, ℕ, ◌+◌, ◌≤◌, min, Bool, true, List, length, None, nat_lt}
 use Rattle.std.specs.List.{range_with_len}
 use Rattle.terms.specs.declared.Gate.{Gate}
 use Rattle.machines.specs.Machine.{Meaning, wire_count, operation_limit}
@@ -25,6 +25,12 @@ supply_of n = record { held = numbered n; most = room n; allowed = every_gate }
 pub record Numbers (n : Numbering) (ws : List ℕ) (m : Numbering) : Type 0 where
   pub wires : ws ≡ range_with_len n.next (length ws)
   pub next : m.next ≡ n.next + length ws
+
+-- The next numbers are taken, the most wires stay as many, and the next number is not past them, if it was not before.
+pub record NumbersTaken (n : Numbering) (ws : List ℕ) (m : Numbering) : Type 0 where
+  pub numbers : Numbers n ws m
+  pub most : m.most ≡ n.most
+  pub within : n.next ≤ n.most → m.next ≤ m.most
 
 -- A machine just made, for s wires held, at most w wires and at most o operations: at most 4,096 wires, at most
 -- 2,000,000 operations, and no more wires held than it takes.

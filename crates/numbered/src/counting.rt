@@ -16,6 +16,7 @@ pub type CountingMachine = Machine<Numbering, Last>;
 pub fn counting_machine(start: u32, most_wires: u32, most_operations: u32) -> CountingMachine
     ensures means { ⟦<CountingMachine as GateMachine>⟧.meaning result ≡ fresh_numbered start most_wires most_operations }
     ensures next { result.wires.next ≡ min start (min most_wires wire_count) }
+    ensures most { result.wires.most ≡ min most_wires wire_count }
 {
     Machine::new(
         Numbering::new(start, most_wires),

@@ -18,6 +18,7 @@ pub type ListMachine<'a> = Listed<'a, Numbering>;
 pub fn list_machine<'a>(start: u32, most_wires: u32, list: &'a mut [Operation]) -> ListMachine<'a>
     ensures means { ⟦<ListMachine<'a> as GateMachine>⟧.meaning result ≡ fresh_numbered start most_wires (length list.old) }
     ensures next { result.wires.next ≡ min start (min most_wires wire_count) }
+    ensures most { result.wires.most ≡ min most_wires wire_count }
     ensures made { result.made ≡ 0 }
     ensures list { result.list.now ≡ list.old }
     ensures loan { result.list.ghost_name ≡ list.entry.ghost_name }

@@ -32,18 +32,18 @@ impl Numbering {
 }
 
 impl Wires for Numbering {
-    ghost use Rattle.numbered.specs.Numbered.{supply_of, Numbers};
-    ghost use Rattle.numbered.specs.Laws.{numbering_bounded, numbers_stay, numbers_go};
+    ghost use Rattle.numbered.specs.Numbered.{supply_of, NumbersTaken};
+    ghost use Rattle.numbered.specs.Laws.{numbering_bounded, numbers_taken_stay, numbers_taken_go};
 
     ghost supply = { supply_of };
 
-    ghost takes = { Numbers };
+    ghost takes = { NumbersTaken };
 
     ghost bounded = { numbering_bounded };
 
-    ghost stays = { numbers_stay };
+    ghost stays = { numbers_taken_stay };
 
-    ghost goes = { numbers_go };
+    ghost goes = { numbers_taken_go };
 
     fn take(&mut self) -> Result<Wire, Full> {
         if self.next >= self.most.min(MOST_WIRES) {

@@ -8,4 +8,4 @@ returns-then-self-min-clause-supply c = (all_held c.args.self.now (omega arith),
 pub returns-clause-supply : goal.returns-clause-supply
 returns-clause-supply c =
     let wire : c.unwrap-wire.result.number ≡ c.args.self.now.next = search rules in
-    next_taken c.args.self.now _ _ wire (omega arith) refl refl
+    next_taken c.args.self.now _ _ wire (omega arith) refl (omega arith)
