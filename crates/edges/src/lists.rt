@@ -53,10 +53,6 @@ fn records_fill_the_front(rt: HostRuntime) -> Result<(), Fail> {
 fn a_machine_with_a_list_as_its_journal_hands_out_its_records(rt: HostRuntime) -> Result<(), Fail> {
     let zero = wire(0)?;
     let one = wire(1)?;
-    let blank = Operation {
-        action: Action::Gate(Gate::Z),
-        operands: Operands::One(zero),
-    };
     let grant = Operation {
         action: Action::Grant(false),
         operands: Operands::One(one),
@@ -65,13 +61,13 @@ fn a_machine_with_a_list_as_its_journal_hands_out_its_records(rt: HostRuntime) -
         action: Action::Gate(Gate::Swap),
         operands: Operands::Two(zero, one),
     };
-    let mut list = [blank; 3];
+    let mut list = [gate, grant, grant];
     let mut machine = Machine::new(Numbering::new(1, 2), list.as_mut_slice());
     assert!(rt; machine.records().is_empty());
     assert_eq!(rt; machine.grant(false), Ok(one));
     assert_eq!(rt; machine.apply(Gate::Swap, &[zero, one]), Ok(()));
     assert_eq!(rt; machine.records(), [grant, gate].as_slice());
-    assert_eq!(rt; list, [grant, gate, blank]);
+    assert_eq!(rt; list, [grant, gate, grant]);
     Ok(())
 }
 

@@ -9,6 +9,7 @@ ghost use Rattle.machines.specs.Operation.{Operation as Made, told, granted_wire
 ghost use Rattle.machines.specs.declared.listed.Listed.{Listed};
 ghost use Rattle.numbered.specs.declared.numbering.Numbering.{Numbering};
 ghost use Rattle.numbered.specs.Numbered.{fresh_numbered, Numbers};
+ghost use Rattle.generic_use.specs.Lists.{Told};
 ghost use Rattle.generic_use.specs.Preparing.{Prepares, prepared};
 
 use machines::machine::GateMachine;
@@ -52,8 +53,8 @@ pub fn prepare_listed(list: &mut [Operation]) -> Result<Prepared, Full>
 /// these operations, on wires from its next one on, and behind them what it held before. For that it is enough that the wires
 /// granted are the next numbers, and that the operations were written.
 pub fn lent_list_is_told<'a>()
-    ensures made { (x y : Listed Numbering) (os : List Made) → x.made ≡ 0 → ⟦<ListMachine<'a> as GateMachine>⟧.makes x os y → (granted_wires os ≡ range_with_len x.wires.next (length (granted_wires os))) × (map told (take (length os) y.list.now) ≡ os) × (drop (length os) y.list.now ≡ drop (length os) x.list.now) }
-    ensures written { (x y : Listed Numbering) (os : List Made) → x.made ≡ 0 → Numbers x.wires (granted_wires os) y.wires → Writes x.list x.made os y.list → (granted_wires os ≡ range_with_len x.wires.next (length (granted_wires os))) × (map told (take (length os) y.list.now) ≡ os) × (drop (length os) y.list.now ≡ drop (length os) x.list.now) }
+    ensures made_is_told { (x y : Listed Numbering) (os : List Made) → x.made ≡ 0 → ⟦<ListMachine<'a> as GateMachine>⟧.makes x os y → Told x os y }
+    ensures written_is_told { (x y : Listed Numbering) (os : List Made) → x.made ≡ 0 → Numbers x.wires (granted_wires os) y.wires → Writes x.list x.made os y.list → Told x os y }
 {}
 
 /// The charge for two steps, which is the same in the other order.

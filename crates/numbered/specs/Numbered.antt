@@ -26,7 +26,7 @@ pub record Numbers (n : Numbering) (ws : List ℕ) (m : Numbering) : Type 0 wher
   pub wires : ws ≡ range_with_len n.next (length ws)
   pub next : m.next ≡ n.next + length ws
 
--- The next numbers are taken, the most wires stay as many, and the next number is not past them, if it was not before.
+-- The next numbers are taken. The most wires stay as many, and if no more were held than these, no more are.
 pub record NumbersTaken (n : Numbering) (ws : List ℕ) (m : Numbering) : Type 0 where
   pub numbers : Numbers n ws m
   pub most : m.most ≡ n.most

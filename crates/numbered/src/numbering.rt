@@ -6,7 +6,7 @@ use terms::{Gate, Wire};
 
 /// The wires below `next` are held, at most `most` are, and all gates are allowed on them.
 // No ghost fields for the bounds, so that a machine with a lent list can be handed on by value in generic code. What is held
-// and the most that is are limited by the number of wires instead.
+// and the most that is are limited by the number of wires instead; the makers tell the bounds, and `NumbersTaken` keeps them.
 #[derive(Clone, Copy)]
 pub struct Numbering {
     next: u16,
